@@ -1,0 +1,61 @@
+-- The whole call: what it answers to a byte string, a flag byte and three lent trays, and what the trays then hold.
+use mathlib.Core.Bool.{Bool, cond}
+use mathlib.Core.List.{List}
+use mathlib.Core.Option.{Option, none, some}
+use Prim.Native.Nat.{ℕ}
+use lib.Dec.{leb}
+use lib.ListN.{length}
+use Rattle.definition.specs.Limits.{mostWorlds}
+use Rattle.definition.specs.Records.{decode}
+use Rattle.definition.specs.Flags.{flagsOf}
+use Rattle.definition.specs.Checks.{Lengths, Check, refused}
+use Rattle.definition.specs.Run.{State, full, final}
+use Rattle.definition.specs.Trays.{Trays, traysOf, zeroTrays, laidOver}
+
+-- refused before the run, by the check that applied; full; or the state at the end of the run
+pub data Outcome : Type 0 where
+  Refused : Check → Outcome
+  Full : Outcome
+  Ended : State → Outcome
+
+unfoldable pub outcomeOfRun : State → Outcome
+outcomeOfRun s = cond (full s) Full (Ended s)
+
+unfoldable pub outcomeBy : List ℕ → ℕ → Option Check → Outcome
+outcomeBy bytes flags (some c) = Refused c
+outcomeBy bytes flags none = outcomeOfRun (final (flagsOf flags) (decode bytes))
+
+unfoldable pub outcome : List ℕ → ℕ → Lengths → Outcome
+outcome bytes flags lent = outcomeBy bytes flags (refused bytes flags lent)
+
+-- "Late is set at the end if 25 worlds exist, even beside proved"
+unfoldable pub late : State → Bool
+late s = leb mostWorlds (s .graph .worlds)
+
+-- "one verdict or one refusal": a refusal's number and record number; or
+-- "proved, late, and the counts of identifiers, formulas (input and made), worlds and steps"
+pub data Answer : Type 0 where
+  refusal : ℕ → ℕ → Answer
+  verdict : Bool → Bool → ℕ → ℕ → ℕ → ℕ → Answer
+
+unfoldable pub answerOf : Outcome → Answer
+answerOf (Refused c) = refusal (c .number) (c .place)
+answerOf Full = refusal 12 0
+answerOf (Ended s) =
+    verdict (s .proved) (late s) (length (s .nodes)) (length (s .formulas)) (s .graph .worlds) (s .steps)
+
+-- "Refusals 1 to 11 write nothing; 12 zeroes the three lengths"
+unfoldable pub traysAfter : Outcome → Trays → Trays
+traysAfter (Refused c) lent = lent
+traysAfter Full lent = laidOver zeroTrays lent
+traysAfter (Ended s) lent = laidOver (traysOf s) lent
+
+abbrev pub lengthsOf : Trays → Lengths
+lengthsOf t = record { nodes = length (t .nodes); formulas = length (t .formulas); edges = length (t .edges) }
+
+-- the call's answer, and the trays that it leaves
+unfoldable pub answer : List ℕ → ℕ → Trays → Answer
+answer branch flags lent = answerOf (outcome branch flags (lengthsOf lent))
+
+unfoldable pub traysLeft : List ℕ → ℕ → Trays → Trays
+traysLeft branch flags lent = traysAfter (outcome branch flags (lengthsOf lent)) lent

@@ -1,0 +1,29 @@
+-- Demand 3, whole: "if a verdict is returned in which `proved` is true, late beside it or not, then no world of any finite Kripke model
+-- with the flagged properties (..), however large, makes every formula of the branch true. Where the flags are symmetric and transitive
+-- without reflexive, that is claimed only of the worlds that reach some world, be it themselves."
+use mathlib.Core.Path.{_≡_}
+use mathlib.Core.Bool.{true, false}
+use mathlib.Core.List.{List}
+use Prim.Native.Nat.{ℕ, _<_}
+use Rattle.definition.specs.Lists.{Each}
+use Rattle.definition.specs.Records.{Rec, decode, marks}
+use Rattle.definition.specs.Formula.{formAt}
+use Rattle.definition.specs.Flags.{Flags, flagsOf}
+use Rattle.definition.specs.Models.{Model, Has, truth}
+use Rattle.definition.specs.Trays.{Trays}
+use Rattle.definition.specs.Call.{Answer, refusal, verdict, answer}
+
+abbrev pub Proved : Answer → Type 0
+Proved (refusal number place) = ⊥
+Proved (verdict proved late identifiers formulas worlds steps) = proved ≡ true
+
+-- the world w, where the flags ask for it, reaches some world
+abbrev pub Reaching : Flags → Model → ℕ → Type 0
+Reaching F M w = F .symmetric ≡ true → F .transitive ≡ true → F .reflexive ≡ false → (v : ℕ) × (v < M .size) × (M .reach w v ≡ true)
+
+abbrev pub NoModel : Flags → List Rec → Type 0
+NoModel F rs =
+    (M : Model) → Has F M → (w : ℕ) → w < M .size → Reaching F M w → Each (λ f. truth M (formAt rs f) w ≡ true) (marks rs) → ⊥
+
+abbrev pub Demand3 : Type 0
+Demand3 = (branch : List ℕ) (flags : ℕ) (lent : Trays) → Proved (answer branch flags lent) → NoModel (flagsOf flags) (decode branch)

@@ -1,0 +1,15 @@
+-- "The flag byte: 1 reflexive, 2 symmetric, 4 transitive, 8 skip contradiction checks."
+use mathlib.Core.Bool.{Bool}
+use Prim.Native.Nat.{ℕ, _/_, _%_}
+use lib.Dec.{eqb}
+
+pub record Flags : Type 0 where
+  pub reflexive : Bool
+  pub symmetric : Bool
+  pub transitive : Bool
+  pub skip : Bool
+
+unfoldable pub flagsOf : ℕ → Flags
+flagsOf n =
+    let bit : ℕ → Bool = λ value. eqb (n / value % 2) 1 in
+    record { reflexive = bit 1; symmetric = bit 2; transitive = bit 4; skip = bit 8 }
