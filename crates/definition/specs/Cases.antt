@@ -88,7 +88,7 @@ unfolding
     Tree.setChild Tree.isContradictory Tree.link Tree.linkChain Tree.isLeaf Tree.only Tree.leavesBelow Tree.upward Tree.leaves Tree.path
     Rules.nonExpansion Rules.expansionBy Rules.expansion
     Subtree.flat Subtree.turned Subtree.numbered Subtree.appendSubtreeOnLeaf Subtree.pushSubtree Subtree.appendCopies Subtree.appendOn Subtree.takes Subtree.appendSubtree Subtree.appendLogicRuleResult
-    Modality.runsThrough Modality.forkedOn Modality.occurs Modality.unvisited Modality.giveOn Modality.leavesOf Modality.reapplyNecessity Modality.visiting Modality.isReapplied Modality.reapplyNecessityAfterPossibility Modality.necessitiesAfterPossibility
+    Modality.runsThrough Modality.forkedOn Modality.occurs Modality.unvisited Modality.giveOn Modality.leavesOf Modality.reapplyNecessity Modality.visiting Modality.isReapplied Modality.reapplyIfOnPath Modality.reapplyNecessityAfterPossibility Modality.necessitiesAfterPossibility
     Queue.priorityOf Queue.getNodePriority Queue.popFirst Queue.popClass Queue.pop
     Contradiction.atomOf Contradiction.atomsOf Contradiction.said Contradiction.denied Contradiction.opposed Contradiction.areFormulasContradictory Contradiction.areNodesContradictory Contradiction.getContradictoryNodeIds Contradiction.isPair Contradiction.mark Contradiction.markAll Contradiction.pairs
     Run.applyHere Run.applyPossibility Run.applyNecessity Run.applyRule Run.apply Run.checkedForContradictions Run.checkForContradictions Run.stepOn Run.stepBy Run.step Run.ended Run.full Run.steps Run.stops Run.rooted Run.branchNodes Run.start Run.final

@@ -74,11 +74,14 @@ visiting t g n =
 unfoldable pub isReapplied : List Node → Fork → Necessity → Bool
 isReapplied t k n = any (λ leaf. elem (k .node) (path t leaf)) (leavesOf t n)
 
+unfoldable pub reapplyIfOnPath : List Node → Graph → Fork → ℕ → Necessity → Made
+reapplyIfOnPath t g k next n = cond (isReapplied t k n) (reapplyNecessity t g (some k) next n) (record { nodes = []; subtrees = [] })
+
 -- "in pop_necessity_reapplication order": the last one pushed first
 unfoldable pub reapplyNecessityAfterPossibility : List Node → Graph → Fork → ℕ → List Necessity → Made
 reapplyNecessityAfterPossibility t g k next [] = record { nodes = []; subtrees = [] }
 reapplyNecessityAfterPossibility t g k next (n ∷ ns) =
-    let one : Made = cond (isReapplied t k n) (reapplyNecessity t g (some k) next n) (record { nodes = []; subtrees = [] }) in
+    let one = reapplyIfOnPath t g k next n in
     let rest = reapplyNecessityAfterPossibility t g k (next + length (one .nodes)) ns in
     record { nodes = one .nodes ++ rest .nodes; subtrees = one .subtrees ++ rest .subtrees }
 

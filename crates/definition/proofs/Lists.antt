@@ -1,0 +1,184 @@
+-- Each and some of a list's elements, and what the tests of specs/Lists tell.
+use mathlib.Core.Path.{_≡_, refl, sym, ap, _∙_, subst}
+use mathlib.Core.Bool.{Bool, true, false, not, _&&_, _||_, cond}
+use mathlib.Core.List.{List, [], _∷_, _++_, map, reverse, reverseAux}
+use mathlib.Core.Logic.{_⊎_, inl, inr, _≢_}
+use Prim.Native.Nat.{ℕ, zero, suc, _<_, _≤_, _+_}
+use native.Mathlib.Omega.{arith}
+use lib.Dec.{eqb}
+use lib.ListN.{length, getD}
+use borrow.Author.Tests.{eqb-true, eqb-false, eq-eqb}
+use Rattle.definition.specs.Lists.{any, all, filter, find, empty, Each, upFrom, below, elem}
+
+pub true-false : {A : Type 0} → true ≡ false → A
+true-false {A} e = let z : _≡_ {A = ℕ} 0 1 = cc (e) in absurd (omega arith)
+
+pub and-left : (a b : Bool) → (a && b) ≡ true → a ≡ true
+and-left true b e = refl
+and-left false b e = e
+
+pub and-right : (a b : Bool) → (a && b) ≡ true → b ≡ true
+and-right true b e = e
+and-right false b e = true-false (sym e)
+
+pub and-both : (a b : Bool) → a ≡ true → b ≡ true → (a && b) ≡ true
+and-both true b p q = q
+and-both false b p q = p
+
+pub or-cases : (a b : Bool) → (a || b) ≡ true → (a ≡ true) ⊎ (b ≡ true)
+or-cases true b e = inl refl
+or-cases false b e = inr e
+
+pub not-true : (a : Bool) → not a ≡ true → a ≡ false
+not-true true e = sym e
+not-true false e = refl
+
+-- a test either holds or not
+pub either : (b : Bool) → (b ≡ true) ⊎ (b ≡ false)
+either true = inl refl
+either false = inr refl
+
+-- what holds of both branches holds of the one taken
+pub cond-both : {A : Type 0} (P : A → Type 0) (b : Bool) (x y : A) → P x → P y → P (cond b x y)
+cond-both P true x y p q = p
+cond-both P false x y p q = q
+
+module _ {A : Type 0} where
+  abbrev pub Some : (A → Type 0) → List A → Type 0
+  Some P [] = ⊥
+  Some P (x ∷ xs) = P x ⊎ Some P xs
+
+  pub each-map : {P Q : A → Type 0} → ((x : A) → P x → Q x) → (xs : List A) → Each P xs → Each Q xs
+  each-map f [] h = tt
+  each-map f (x ∷ xs) h = (f x (h .0), each-map f xs (h .1))
+
+  pub each-both : {P Q R : A → Type 0} → ((x : A) → P x → Q x → R x) → (xs : List A) → Each P xs → Each Q xs → Each R xs
+  each-both f [] h k = tt
+  each-both f (x ∷ xs) h k = (f x (h .0) (k .0), each-both f xs (h .1) (k .1))
+
+  pub each-any : (P : A → Type 0) → ((x : A) → P x) → (xs : List A) → Each P xs
+  each-any P f [] = tt
+  each-any P f (x ∷ xs) = (f x, each-any P f xs)
+
+  pub each-append : (P : A → Type 0) (xs ys : List A) → Each P xs → Each P ys → Each P (xs ++ ys)
+  each-append P [] ys h k = k
+  each-append P (x ∷ xs) ys h k = (h .0, each-append P xs ys (h .1) k)
+
+  pub each-left : (P : A → Type 0) (xs ys : List A) → Each P (xs ++ ys) → Each P xs
+  each-left P [] ys h = tt
+  each-left P (x ∷ xs) ys h = (h .0, each-left P xs ys (h .1))
+
+  pub each-right : (P : A → Type 0) (xs ys : List A) → Each P (xs ++ ys) → Each P ys
+  each-right P [] ys h = h
+  each-right P (x ∷ xs) ys h = each-right P xs ys (h .1)
+
+  pub each-reverseAux : (P : A → Type 0) (xs ys : List A) → Each P xs → Each P ys → Each P (reverseAux xs ys)
+  each-reverseAux P [] ys h k = k
+  each-reverseAux P (x ∷ xs) ys h k = each-reverseAux P xs (x ∷ ys) (h .1) (h .0, k)
+
+  pub each-reverse : (P : A → Type 0) (xs : List A) → Each P xs → Each P (reverse xs)
+  each-reverse P xs h = each-reverseAux P xs [] h tt
+
+  pub some-append-left : (P : A → Type 0) (xs ys : List A) → Some P xs → Some P (xs ++ ys)
+  some-append-left P [] ys h = absurd h
+  some-append-left P (x ∷ xs) ys (inl p) = inl p
+  some-append-left P (x ∷ xs) ys (inr h) = inr (some-append-left P xs ys h)
+
+  pub some-append-right : (P : A → Type 0) (xs ys : List A) → Some P ys → Some P (xs ++ ys)
+  some-append-right P [] ys h = h
+  some-append-right P (x ∷ xs) ys h = inr (some-append-right P xs ys h)
+
+  -- what holds of each holds of some that has more
+  pub some-each : {P Q R : A → Type 0} → ((x : A) → P x → Q x → R x) → (xs : List A) → Some P xs → Each Q xs → Some R xs
+  some-each f [] h k = absurd h
+  some-each f (x ∷ xs) (inl p) k = inl (f x p (k .0))
+  some-each f (x ∷ xs) (inr h) k = inr (some-each f xs h (k .1))
+
+  pub some-pick : {P : A → Type 0} (xs : List A) → Some P xs → (x : A) × P x
+  some-pick [] h = absurd h
+  some-pick (x ∷ xs) (inl p) = (x, p)
+  some-pick (x ∷ xs) (inr h) = some-pick xs h
+
+  pub any-some : (p : A → Bool) (xs : List A) → any p xs ≡ true → Some (λ x. p x ≡ true) xs
+  any-some p [] e = true-false (sym e)
+  any-some p (x ∷ xs) e = go (or-cases (p x) (any p xs) e) (any-some p xs)
+    where
+      go : (p x ≡ true) ⊎ (any p xs ≡ true) → (any p xs ≡ true → Some (λ y. p y ≡ true) xs) → Some (λ y. p y ≡ true) (x ∷ xs)
+      go (inl h) k = inl h
+      go (inr h) k = inr (k h)
+
+  pub all-each : (p : A → Bool) (xs : List A) → all p xs ≡ true → Each (λ x. p x ≡ true) xs
+  all-each p [] e = tt
+  all-each p (x ∷ xs) e = (and-left (p x) (all p xs) e, all-each p xs (and-right (p x) (all p xs) e))
+
+  -- what is sifted passes, and keeps what held of each
+  pub each-filter : (P : A → Type 0) (p : A → Bool) (xs : List A) → Each P xs → Each (λ x. P x × (p x ≡ true)) (filter p xs)
+  each-filter P p [] h = tt
+  each-filter P p (x ∷ xs) h = go (p x) refl (each-filter P p xs (h .1))
+    where
+      go : (b : Bool) → p x ≡ b → Each (λ y. P y × (p y ≡ true)) (filter p xs) → Each (λ y. P y × (p y ≡ true)) (cond b (x ∷ filter p xs) (filter p xs))
+      go true e r = ((h .0, e), r)
+      go false e r = r
+
+module _ {A B : Type 0} where
+  pub each-of-map : (P : B → Type 0) (f : A → B) (xs : List A) → Each (λ x. P (f x)) xs → Each P (map f xs)
+  each-of-map P f [] h = tt
+  each-of-map P f (x ∷ xs) h = (h .0, each-of-map P f xs (h .1))
+
+  pub some-of-map : (P : B → Type 0) (f : A → B) (xs : List A) → Some (λ x. P (f x)) xs → Some P (map f xs)
+  some-of-map P f [] h = absurd h
+  some-of-map P f (x ∷ xs) (inl p) = inl p
+  some-of-map P f (x ∷ xs) (inr h) = inr (some-of-map P f xs h)
+
+-- what holds of each holds of one that is elem them
+pub elem-each : (P : ℕ → Type 0) (x : ℕ) (xs : List ℕ) → elem x xs ≡ true → Each P xs → P x
+elem-each P x [] e h = true-false (sym e)
+elem-each P x (y ∷ ys) e h = go (or-cases (eqb x y) (elem x ys) e) (λ k. elem-each P x ys k (h .1))
+  where
+    go : (eqb x y ≡ true) ⊎ (elem x ys ≡ true) → (elem x ys ≡ true → P x) → P x
+    go (inl q) k = subst P (sym (eqb-true x y q)) (h .0)
+    go (inr q) k = k q
+
+pub upFrom-each : (n i : ℕ) → Each (λ x. (i ≤ x) × (x < i + n)) (upFrom n i)
+upFrom-each zero i = tt
+upFrom-each (suc n) i =
+    ((omega arith, omega arith), each-map (λ x (h : (suc i ≤ x) × (x < suc i + n)). (omega arith, omega arith)) (upFrom n (suc i)) (upFrom-each n (suc i)))
+
+pub below-each : (n : ℕ) → Each (λ x. x < n) (below n)
+below-each n = each-map (λ x (h : (0 ≤ x) × (x < 0 + n)). omega arith) (below n) (upFrom-each n 0)
+
+-- a test that some number below n passes
+pub any-below : (p : ℕ → Bool) (n : ℕ) → any p (below n) ≡ true → (v : ℕ) × (v < n) × (p v ≡ true)
+any-below p n e =
+    let s = some-pick (below n) (some-each {R = λ v. (v < n) × (p v ≡ true)} (λ v a b. (b, a)) (below n) (any-some p (below n) e) (below-each n)) in
+    (s .0, s .1 .0, s .1 .1)
+
+all-from : (p : ℕ → Bool) (n i : ℕ) → all p (upFrom n i) ≡ true → (v : ℕ) → i ≤ v → v < i + n → p v ≡ true
+all-from p zero i e v h k = absurd (omega arith)
+all-from p (suc n) i e v h k = go (either (eqb i v)) (all-from p n (suc i) (and-right (p i) (all p (upFrom n (suc i))) e) v)
+  where
+    go : (eqb i v ≡ true) ⊎ (eqb i v ≡ false) → (suc i ≤ v → v < suc i + n → p v ≡ true) → p v ≡ true
+    go (inl q) f = subst (λ (x : ℕ). p x ≡ true) (eqb-true i v q) (and-left (p i) (all p (upFrom n (suc i))) e)
+    go (inr q) f =
+        let ne : i ≢ v = eqb-false i v q in
+        f (omega arith) (omega arith)
+
+pub all-below : (p : ℕ → Bool) (n : ℕ) → all p (below n) ≡ true → (v : ℕ) → v < n → p v ≡ true
+all-below p n e v h = all-from p n 0 e v (omega arith) (omega arith)
+
+module _ {A : Type 0} (p q : A → Bool) (flip : (x : A) → q x ≡ not (p x)) where
+  pub any-false-all : (xs : List A) → any p xs ≡ false → all q xs ≡ true
+  any-false-all [] e = refl
+  any-false-all (x ∷ xs) e = go (p x) refl e (any-false-all xs)
+    where
+      go : (b : Bool) → p x ≡ b → (b || any p xs) ≡ false → (any p xs ≡ false → all q xs ≡ true) → (q x && all q xs) ≡ true
+      go true h d k = true-false d
+      go false h d k = and-both (q x) (all q xs) (flip x ∙ ap not h) (k d)
+
+  pub all-false-any : (xs : List A) → all p xs ≡ false → any q xs ≡ true
+  all-false-any [] e = true-false e
+  all-false-any (x ∷ xs) e = go (p x) refl e (all-false-any xs)
+    where
+      go : (b : Bool) → p x ≡ b → (b && all p xs) ≡ false → (all p xs ≡ false → any q xs ≡ true) → (q x || any q xs) ≡ true
+      go true h d k = rw (flip x, h) (k d)
+      go false h d k = rw (flip x, h)
