@@ -1,5 +1,5 @@
 -- "Rules": Priest's table on formulas, and the rule chosen on records.
-use mathlib.Core.List.{List, [], _∷_}
+use mathlib.Core.List.{List, [], _∷_, map}
 use Prim.Native.Nat.{ℕ, suc}
 use lib.ListN.{length}
 use Rattle.definition.specs.Records.{Kind, Atomic, Non, And, Or, Imply, BiImply, StrictImply, Possible, Necessary, Unknown, Comment, Rec, made, recAt, formulaOf}
@@ -79,3 +79,11 @@ unfoldable pub expansion : List Rec → ℕ → Expansion
 expansion rs f =
     let r = formulaOf rs f in
     expansionBy (r .kind) (length rs) (r .left) (r .right) (recAt rs (r .left))
+
+-- a rule on record numbers, written out
+unfoldable pub writtenRule : (ℕ → Form) → Rule ℕ → Rule Form
+writtenRule form nothing = nothing
+writtenRule form (down fs) = down (map form fs)
+writtenRule form (split fs gs) = split (map form fs) (map form gs)
+writtenRule form (asPossible f) = asPossible (form f)
+writtenRule form (asNecessary f) = asNecessary (form f)
