@@ -29,6 +29,18 @@ pub or-cases : (a b : Bool) → (a || b) ≡ true → (a ≡ true) ⊎ (b ≡ tr
 or-cases true b e = inl refl
 or-cases false b e = inr e
 
+pub or-left : (a b : Bool) → (a || b) ≡ false → a ≡ false
+or-left true b e = e
+or-left false b e = refl
+
+pub or-right : (a b : Bool) → (a || b) ≡ false → b ≡ false
+or-right true b e = true-false e
+or-right false b e = e
+
+pub or-true : (a : Bool) {b : Bool} → b ≡ true → (a || b) ≡ true
+or-true true e = refl
+or-true false e = e
+
 pub not-true : (a : Bool) → not a ≡ true → a ≡ false
 not-true true e = sym e
 not-true false e = refl

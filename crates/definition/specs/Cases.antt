@@ -91,7 +91,7 @@ unfolding
     Modality.runsThrough Modality.forkedOn Modality.occurs Modality.unvisited Modality.giveOn Modality.leavesOf Modality.reapplyNecessity Modality.visiting Modality.isReapplied Modality.reapplyIfOnPath Modality.reapplyNecessityAfterPossibility Modality.necessitiesAfterPossibility
     Queue.priorityOf Queue.getNodePriority Queue.popFirst Queue.popClass Queue.pop
     Contradiction.atomOf Contradiction.atomsOf Contradiction.said Contradiction.denied Contradiction.opposed Contradiction.areFormulasContradictory Contradiction.areNodesContradictory Contradiction.getContradictoryNodeIds Contradiction.isPair Contradiction.mark Contradiction.markAll Contradiction.pairs
-    Run.applyHere Run.applyPossibility Run.applyNecessity Run.applyRule Run.apply Run.checkedForContradictions Run.checkForContradictions Run.stepOn Run.stepBy Run.step Run.ended Run.full Run.steps Run.stops Run.rooted Run.branchNodes Run.start Run.final
+    Run.applyHere Run.applyPossibility Run.applyNecessity Run.applyRule Run.apply Run.checkedForContradictions Run.checkForContradictions Run.appended Run.stepBy Run.step Run.ended Run.full Run.steps Run.stops Run.rooted Run.branchNodes Run.begun Run.start Run.final
 computed bytes flags lent = outcome bytes flags lent
 
 abbrev pub result : Case → Expected

@@ -104,13 +104,12 @@ checkedForContradictions s =
 unfoldable pub checkForContradictions : Flags → State → State
 checkForContradictions F s = cond (F .skip) s (checkedForContradictions s)
 
--- "It takes one node, applies its rule, places the result, checks contradictions, then queues the result"
-unfoldable pub stepOn : Flags → State → Popped → State
-stepOn F s taken =
+-- "It takes one node, applies its rule, places the result, checks contradictions, then queues the result": all but the check
+unfoldable pub appended : Flags → State → Popped → State
+appended F s taken =
     let r = apply F s (taken .node) in
     let p = appendLogicRuleResult (s .nodes ++ r .nodes) (taken .others) (r .subtrees) in
-    checkForContradictions F
-    (record {
+    record {
       formulas = s .formulas ++ r .formulas;
       nodes = p .nodes;
       graph = r .graph;
@@ -118,11 +117,11 @@ stepOn F s taken =
       waiting = p .waiting;
       proved = s .proved;
       steps = suc (s .steps);
-    })
+    }
 
 unfoldable pub stepBy : Flags → State → Option Popped → State
 stepBy F s none = s
-stepBy F s (some taken) = stepOn F s taken
+stepBy F s (some taken) = checkForContradictions F (appended F s taken)
 
 unfoldable pub step : Flags → State → State
 step F s = stepBy F s (pop (s .formulas) (s .nodes) (s .waiting))
@@ -161,11 +160,10 @@ rooted (x ∷ xs) = linkChain (placedBelow nobody Root x ∷ xs) 0 Middle (upFro
 unfoldable pub branchNodes : List Rec → List Node
 branchNodes rs = map (λ f. newNode nobody f 0) (marks rs)
 
--- "The root is queued by one push_tree_node": children before the node itself. "Contradictions are checked once before any step"
-unfoldable pub start : Flags → List Rec → State
-start F rs =
-    checkForContradictions F
-    (record {
+-- "The root is queued by one push_tree_node": children before the node itself
+unfoldable pub begun : List Rec → State
+begun rs =
+    record {
       formulas = rs;
       nodes = rooted (branchNodes rs);
       graph = emptyGraph;
@@ -173,7 +171,11 @@ start F rs =
       waiting = reverse (below (length (branchNodes rs)));
       proved = false;
       steps = 0;
-    })
+    }
+
+-- "Contradictions are checked once before any step, unless skipped"
+unfoldable pub start : Flags → List Rec → State
+start F rs = checkForContradictions F (begun rs)
 
 -- each step takes an identifier that was not taken before, so that this many steps are enough
 unfoldable pub final : Flags → List Rec → State

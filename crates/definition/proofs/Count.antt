@@ -1,0 +1,220 @@
+-- Each identifier waits or was taken by a step: steps and waiting nodes together are as many as identifiers.
+use mathlib.Core.Path.{_≡_, refl, sym, ap, _∙_, subst}
+use mathlib.Core.Bool.{Bool, true, false, cond, _||_}
+use mathlib.Core.List.{List, [], _∷_, _++_, map, reverse, append-assoc}
+use mathlib.Core.Option.{Option, none, some}
+use mathlib.Core.Logic.{_⊎_, inl, inr, _≢_}
+use Prim.Native.Nat.{ℕ, zero, suc, _<_, _≤_, _+_}
+use native.Mathlib.Omega.{arith}
+use lib.Dec.{eqb, leb}
+use borrow.Author.Tests.{eqb-true, eqb-false, eq-eqb, leb-true}
+use lib.ListN.{length, getD, length-append, length-map, length-reverse}
+use Rattle.definition.specs.Lists.{Each, all, empty, orElse, upFrom, below, filter}
+use Rattle.definition.specs.Records.{Kind, Rec, Non, is, numberOf, recAt, formulaOf, marks, nobody}
+use Rattle.definition.specs.Flags.{Flags}
+use Rattle.definition.specs.Tree.{Node, Root, Middle, nodeAt, placedBelow, markedAgainst, leaves}
+use Rattle.definition.specs.Subtree.{Subtree, Targeted, flat, turned, numbered, copied, pushSubtree, appendSubtreeOnLeaf, appendCopies, appendOn, takes, appendSubtree, appendLogicRuleResult}
+use Rattle.definition.specs.Queue.{priorities, prioritiesOfNon, priorityOf, getNodePriority, Popped, popFirst, popClass, pop}
+use Rattle.definition.specs.Contradiction.{Pair, mark, markAll, pairs}
+use Rattle.definition.specs.Run.{State, apply, checkedForContradictions, checkForContradictions, appended, stepBy, step, ended, stops, rooted, branchNodes, begun, start}
+use Rattle.definition.proofs.Lists.{true-false, and-left, and-right, or-left, or-right, cond-both}
+use Rattle.definition.proofs.Nodes.{length-change, length-chain, length-leaf}
+use Rattle.definition.proofs.Issued.{Ids, Issued, flat-numbered, length-from, length-turned, apply-issued}
+
+pub length-push : (q : List ℕ) (s : Subtree) → length (pushSubtree q s) ≡ length q + length (flat s)
+unfolding pushSubtree
+length-push q s = length-append q (flat (turned s)) ∙ ap (λ (n : ℕ). length q + n) (length-turned s)
+
+length-numbered : (n : ℕ) (s : Subtree) → length (flat (numbered n s)) ≡ length (flat s)
+length-numbered n s = ap length (flat-numbered n s) ∙ length-from (length (flat s)) n
+
+-- what a placing adds to the tree, it adds to the queue
+copies-count : (ls : List ℕ) (t : List Node) (q : List ℕ) (s : Subtree) →
+    length (appendCopies t q ls s .nodes) + length q ≡ length t + length (appendCopies t q ls s .waiting)
+unfolding appendCopies
+copies-count [] t q s = refl
+copies-count (y ∷ ls) t q s =
+    let c = numbered (length t) s in
+    let u = t ++ map (copied t) (flat s) in
+    omega (
+      arith,
+      copies-count ls (appendSubtreeOnLeaf u y c) (pushSubtree q c) s,
+      length-leaf u y c,
+      length-append t (map (copied t) (flat s)),
+      length-map (flat s) (copied t),
+      length-push q c,
+      length-numbered (length t) s,
+    )
+
+on-count : (ls : List ℕ) (t : List Node) (q : List ℕ) (s : Subtree) →
+    length (appendOn t q ls s .nodes) + (length q + length (flat s)) ≡ length t + length (appendOn t q ls s .waiting)
+unfolding appendOn
+on-count [] t q s = omega (arith, length-push q s)
+on-count (y ∷ ls) t q s =
+    omega (arith, copies-count ls (appendSubtreeOnLeaf t y s) (pushSubtree q s) s, length-leaf t y s, length-push q s)
+
+pub result-count : (rs : List Targeted) (t : List Node) (q : List ℕ) (lo hi : ℕ) → Issued lo hi rs →
+    length (appendLogicRuleResult t q rs .nodes) + (length q + hi) ≡ length t + (length (appendLogicRuleResult t q rs .waiting) + lo)
+unfolding appendLogicRuleResult appendSubtree
+result-count [] t q lo hi i = omega (arith, i)
+result-count (r ∷ rs) t q lo hi i =
+    let p = appendSubtree t q (r .target) (r .subtree) in
+    omega (
+      arith,
+      result-count rs (p .nodes) (p .waiting) (i .0) hi (i .2),
+      on-count (filter (takes t (r .target)) (leaves t)) t q (r .subtree),
+      i .1 .count,
+    )
+
+-- a popped node stood among the others
+module _ (P : ℕ → Type 0) where
+  abbrev pub Out : List ℕ → Option Popped → Type 0
+  Out q none = Unit {0}
+  Out q (some p) = (suc (length (p .others)) ≡ length q) × (Each P q → P (p .node) × Each P (p .others))
+
+  out-first : (p : ℕ → Bool) (xs before : List ℕ) → Out (before ++ xs) (popFirst p before xs)
+  unfolding popFirst
+  out-first p [] before = tt
+  out-first p (x ∷ xs) before =
+      cond-both (Out (before ++ (x ∷ xs))) (p x) (some (record { node = x; others = before ++ xs })) (popFirst p (before ++ (x ∷ [])) xs)
+      (omega (arith, length-append before (x ∷ xs), length-append before xs), parted before)
+      (subst (λ (q : List ℕ). Out q (popFirst p (before ++ (x ∷ [])) xs)) (append-assoc before (x ∷ []) xs) (out-first p xs (before ++ (x ∷ []))))
+    where
+      parted : (b : List ℕ) → Each P (b ++ (x ∷ xs)) → P x × Each P (b ++ xs)
+      parted [] h = h
+      parted (y ∷ ys) h = let r = parted ys (h .1) in (r .0, (h .0, r .1))
+
+  out-else : (q : List ℕ) (a b : Option Popped) → Out q a → Out q b → Out q (orElse a b)
+  out-else q none b h k = k
+  out-else q (some p) b h k = h
+
+  out-class : (rs : List Rec) (t : List Node) (q cs : List ℕ) → Out q (popClass rs t q cs)
+  unfolding popClass
+  out-class rs t q [] = tt
+  out-class rs t q (c ∷ cs) = out-else q (popFirst (λ x. eqb (getNodePriority rs t x) c) [] q) (popClass rs t q cs) (out-first (λ x. eqb (getNodePriority rs t x) c) q []) (out-class rs t q cs)
+
+  pub pop-out : (rs : List Rec) (t : List Node) (q : List ℕ) → Out q (pop rs t q)
+  unfolding pop
+  pop-out rs t q = out-class rs t q (0 ∷ 1 ∷ 2 ∷ [])
+
+-- every class is 0, 1 or 2: one computed test of each table
+low : (ns : List ℕ) → all (λ n. leb n 2) ns ≡ true → (i : ℕ) → getD ns i 0 ≤ 2
+low [] h i = omega arith
+low (n ∷ ns) h zero = leb-true n 2 (and-left (leb n 2) _ h)
+low (n ∷ ns) h (suc i) = low ns (and-right (leb n 2) _ h) i
+
+priority-low : (rs : List Rec) (r : Rec) → priorityOf rs r ≤ 2
+unfolding priorityOf
+priority-low rs r =
+    cond-both (λ n. n ≤ 2) (is Non r) (getD prioritiesOfNon (numberOf (recAt rs (r .left) .kind)) 0) (getD priorities (numberOf (r .kind)) 0)
+    (low prioritiesOfNon refl (numberOf (recAt rs (r .left) .kind))) (low priorities refl (numberOf (r .kind)))
+
+first-none : (p : ℕ → Bool) (x : ℕ) (xs before : List ℕ) → popFirst p before (x ∷ xs) ≡ none → p x ≡ false
+unfolding popFirst
+first-none p x xs before e = go (p x) refl e
+  where
+    go : (b : Bool) → p x ≡ b → cond b (some (record { node = x; others = before ++ xs })) (popFirst p (before ++ (x ∷ [])) xs) ≡ none → p x ≡ false
+    go true q d = let z : _≡_ {A = ℕ} 0 1 = cc in absurd (omega arith)
+    go false q d = q
+
+else-none : (a b : Option Popped) → orElse a b ≡ none → (a ≡ none) × (b ≡ none)
+else-none none b e = (refl, e)
+else-none (some p) b e = let z : _≡_ {A = ℕ} 0 1 = cc in absurd (omega arith)
+
+-- where a node waits, one is taken
+pub pop-some : (rs : List Rec) (t : List Node) (x : ℕ) (xs : List ℕ) → pop rs t (x ∷ xs) ≡ none → ⊥
+unfolding pop popClass getNodePriority
+pop-some rs t x xs e =
+    let a = else-none _ _ e in
+    let b = else-none _ _ (a .1) in
+    let c = else-none _ _ (b .1) in
+    let n0 = miss 0 (a .0) in
+    let n1 = miss 1 (b .0) in
+    let n2 = miss 2 (c .0) in
+    omega (arith, n0, n1, n2, priority-low rs (formulaOf rs (nodeAt t x .formula)))
+  where
+    miss : (k : ℕ) → popFirst (λ y. eqb (getNodePriority rs t y) k) [] (x ∷ xs) ≡ none → priorityOf rs (formulaOf rs (nodeAt t x .formula)) ≢ k
+    miss k h = eqb-false (getNodePriority rs t x) k (first-none (λ y. eqb (getNodePriority rs t y) k) x xs [] h)
+
+-- each identifier waits, or was taken by a step
+unfoldable pub Counted : State → Type 0
+Counted s = s .steps + length (s .waiting) ≡ length (s .nodes)
+
+pub length-markAll : (ps : List (Option Pair)) (t : List Node) → length (markAll t ps) ≡ length t
+unfolding markAll mark
+length-markAll [] t = refl
+length-markAll (none ∷ ps) t = length-markAll ps t
+length-markAll (some p ∷ ps) t = length-markAll ps _ ∙ length-change t (p .later) (markedAgainst (p .earlier))
+
+-- what the check for contradictions leaves: all but marks and proved
+pub checked-both : (P : State → Type 0) (F : Flags) (s : State) → P s → P (checkedForContradictions s) → P (checkForContradictions F s)
+unfolding checkForContradictions
+checked-both P F s h k = cond-both P (F .skip) s (checkedForContradictions s) h k
+
+pub checked-length : (F : Flags) (s : State) → length (checkForContradictions F s .nodes) ≡ length (s .nodes)
+unfolding checkedForContradictions
+checked-length F s =
+    checked-both (λ (z : State). length (z .nodes) ≡ length (s .nodes)) F s refl (length-markAll (pairs (s .formulas) (s .nodes) (leaves (s .nodes))) (s .nodes))
+
+checked-counted : (F : Flags) (s : State) → Counted s → Counted (checkForContradictions F s)
+unfolding Counted checkedForContradictions
+checked-counted F s h =
+    checked-both Counted F s h (omega (arith, h, length-markAll (pairs (s .formulas) (s .nodes) (leaves (s .nodes))) (s .nodes)))
+
+checked-steps : (F : Flags) (s : State) → checkForContradictions F s .steps ≡ s .steps
+unfolding checkedForContradictions
+checked-steps F s = checked-both (λ (z : State). z .steps ≡ s .steps) F s refl refl
+
+appended-counted : (F : Flags) (s : State) (taken : Popped) → suc (length (taken .others)) ≡ length (s .waiting) → Counted s → Counted (appended F s taken)
+unfolding appended Counted
+appended-counted F s taken e h =
+    let r = apply F s (taken .node) in
+    let n = length (s .nodes) in
+    omega (
+      arith,
+      e,
+      h,
+      result-count (r .subtrees) (s .nodes ++ r .nodes) (taken .others) n (n + length (r .nodes)) (apply-issued F s (taken .node)),
+      length-append (s .nodes) (r .nodes),
+    )
+
+appended-steps : (F : Flags) (s : State) (taken : Popped) → appended F s taken .steps ≡ suc (s .steps)
+unfolding appended
+appended-steps F s taken = refl
+
+-- a step that is due is counted
+pub due : (F : Flags) (s : State) → ended s ≡ false → Counted s → Counted (step F s) × (step F s .steps ≡ suc (s .steps))
+unfolding step stepBy ended
+due F s e h = waits (s .waiting) refl
+  where
+    full : empty (s .waiting) ≡ false
+    full = or-left (empty (s .waiting)) _ (or-right (s .proved) _ e)
+
+    abbrev-goal : Option Popped → Type 0
+    abbrev-goal o = Counted (stepBy F s o) × (stepBy F s o .steps ≡ suc (s .steps))
+
+    go : (o : Option Popped) → Out (λ _. Unit {0}) (s .waiting) o → (o ≡ none → ⊥) → abbrev-goal o
+    go none l some-waits = absurd (some-waits refl)
+    go (some p) l some-waits = (
+      checked-counted F (appended F s p) (appended-counted F s p (l .0) h),
+      checked-steps F (appended F s p) ∙ appended-steps F s p,
+    )
+
+    waits : (q : List ℕ) → s .waiting ≡ q → abbrev-goal (pop (s .formulas) (s .nodes) (s .waiting))
+    waits [] d = true-false (sym (ap (empty {A = ℕ}) d) ∙ full)
+    waits (x ∷ xs) d =
+        go (pop (s .formulas) (s .nodes) (s .waiting)) (pop-out (λ _. Unit {0}) (s .formulas) (s .nodes) (s .waiting))
+        (λ n. pop-some (s .formulas) (s .nodes) x xs (ap (pop (s .formulas) (s .nodes)) (sym d) ∙ n))
+
+pub length-rooted : (ns : List Node) → length (rooted ns) ≡ length ns
+unfolding rooted
+length-rooted [] = refl
+length-rooted (n ∷ ns) = length-chain (placedBelow nobody Root n ∷ ns) 0 Middle (upFrom (length ns) 1)
+
+begun-counted : (rs : List Rec) → Counted (begun rs)
+unfolding begun Counted
+begun-counted rs = omega (arith, length-reverse (below (length (branchNodes rs))), length-from (length (branchNodes rs)) 0, length-rooted (branchNodes rs))
+
+pub start-counted : (F : Flags) (rs : List Rec) → Counted (start F rs)
+unfolding start
+start-counted F rs = checked-counted F (begun rs) (begun-counted rs)
