@@ -17,3 +17,4 @@ pub mod Trays
 pub mod Call
 pub mod Claim
 pub mod Cases
+pub mod Refusals
