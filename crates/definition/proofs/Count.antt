@@ -12,14 +12,14 @@ use lib.ListN.{length, getD, length-append, length-map, length-reverse}
 use Rattle.definition.specs.Lists.{Each, all, empty, orElse, upFrom, below, filter}
 use Rattle.definition.specs.Records.{Kind, Rec, Non, is, numberOf, recAt, formulaOf, marks, nobody}
 use Rattle.definition.specs.Flags.{Flags}
-use Rattle.definition.specs.Tree.{Node, Root, Middle, nodeAt, placedBelow, markedAgainst, leaves}
+use Rattle.definition.specs.Tree.{Node, Root, Middle, nodeAt, placedBelow, leaves}
 use Rattle.definition.specs.Subtree.{Subtree, Targeted, flat, turned, numbered, copied, pushSubtree, appendSubtreeOnLeaf, appendCopies, appendOn, takes, appendSubtree, appendLogicRuleResult}
 use Rattle.definition.specs.Queue.{priorities, prioritiesOfNon, priorityOf, getNodePriority, Popped, popFirst, popClass, pop}
-use Rattle.definition.specs.Contradiction.{Pair, mark, markAll, pairs}
+use Rattle.definition.specs.Contradiction.{pairs}
 use Rattle.definition.specs.Run.{State, apply, checkedForContradictions, checkForContradictions, appended, stepBy, step, ended, stops, rooted, branchNodes, begun, start}
-use Rattle.definition.proofs.Lists.{true-false, and-left, and-right, or-left, or-right, cond-both}
-use Rattle.definition.proofs.Nodes.{length-change, length-chain, length-leaf}
-use Rattle.definition.proofs.Issued.{Ids, Issued, flat-numbered, length-from, length-turned, apply-issued}
+use Rattle.definition.proofs.Lists.{true-false, and-left, and-right, or-left, or-right, cond-both, each-map, each-append, each-reverse, below-each}
+use Rattle.definition.proofs.Nodes.{length-chain, length-leaf, length-marks, Ext, ext-subtree}
+use Rattle.definition.proofs.Issued.{Ids, ids-numbered, Issued, issued-le, flat-numbered, length-from, length-turned, each-turned, apply-issued}
 
 pub length-push : (q : List ℕ) (s : Subtree) → length (pushSubtree q s) ≡ length q + length (flat s)
 unfolding pushSubtree
@@ -65,6 +65,46 @@ result-count (r ∷ rs) t q lo hi i =
       on-count (filter (takes t (r .target)) (leaves t)) t q (r .subtree),
       i .1 .count,
     )
+
+-- what waits is a node of the tree
+abbrev pub Known : List Node → List ℕ → Type 0
+Known t q = Each (λ x. x < length t) q
+
+pub known-longer : (t t′ : List Node) (q : List ℕ) → length t ≤ length t′ → Known t q → Known t′ q
+known-longer t t′ q h k = each-map (λ x (l : x < length t). omega arith) q k
+
+known-push : (t : List Node) (q : List ℕ) (s : Subtree) → Known t q → Known t (flat s) → Known t (pushSubtree q s)
+unfolding pushSubtree
+known-push t q s h k = each-append (λ x. x < length t) q (flat (turned s)) h (each-turned (λ x. x < length t) s k)
+
+known-copies : (ls : List ℕ) (t : List Node) (q : List ℕ) (s : Subtree) → Known t q → Known (appendCopies t q ls s .nodes) (appendCopies t q ls s .waiting)
+unfolding appendCopies
+known-copies [] t q s h = h
+known-copies (y ∷ ls) t q s h =
+    let c = numbered (length t) s in
+    let u = t ++ map (copied t) (flat s) in
+    let v = appendSubtreeOnLeaf u y c in
+    let n : length v ≡ length t + length (flat s) = omega (arith, length-leaf u y c, length-append t (map (copied t) (flat s)), length-map (flat s) (copied t)) in
+    known-copies ls v (pushSubtree q c) s
+    (known-push v q c (known-longer t v q (omega (arith, n)) h)
+    (each-map (λ x (k : (length t ≤ x) × (x < length t + length (flat s))). omega (arith, k .1, n)) (flat c) (ids-numbered (length t) s .within)))
+
+known-on : (ls : List ℕ) (t : List Node) (q : List ℕ) (s : Subtree) → Known t q → Known t (flat s) → Known (appendOn t q ls s .nodes) (appendOn t q ls s .waiting)
+unfolding appendOn
+known-on [] t q s h k = known-push t q s h k
+known-on (y ∷ ls) t q s h k =
+    let u = appendSubtreeOnLeaf t y s in
+    known-copies ls u (pushSubtree q s) s (known-longer t u (pushSubtree q s) (omega (arith, length-leaf t y s)) (known-push t q s h k))
+
+pub known-result : (rs : List Targeted) (t : List Node) (q : List ℕ) (lo hi : ℕ) → Issued lo hi rs → hi ≤ length t → Known t q →
+    Known (appendLogicRuleResult t q rs .nodes) (appendLogicRuleResult t q rs .waiting)
+unfolding appendLogicRuleResult appendSubtree
+known-result [] t q lo hi i h k = k
+known-result (r ∷ rs) t q lo hi i h k =
+    let p = appendSubtree t q (r .target) (r .subtree) in
+    known-result rs (p .nodes) (p .waiting) (i .0) hi (i .2) (omega (arith, h, ext-subtree t q (r .target) (r .subtree) .longer))
+    (known-on (filter (takes t (r .target)) (leaves t)) t q (r .subtree) k
+    (each-map (λ x (l : (lo ≤ x) × (x < i .0)). omega (arith, l .1, h, issued-le (i .0) hi rs (i .2))) (flat (r .subtree)) (i .1 .within)))
 
 -- a popped node stood among the others
 module _ (P : ℕ → Type 0) where
@@ -140,12 +180,6 @@ pop-some rs t x xs e =
 unfoldable pub Counted : State → Type 0
 Counted s = s .steps + length (s .waiting) ≡ length (s .nodes)
 
-pub length-markAll : (ps : List (Option Pair)) (t : List Node) → length (markAll t ps) ≡ length t
-unfolding markAll mark
-length-markAll [] t = refl
-length-markAll (none ∷ ps) t = length-markAll ps t
-length-markAll (some p ∷ ps) t = length-markAll ps _ ∙ length-change t (p .later) (markedAgainst (p .earlier))
-
 -- what the check for contradictions leaves: all but marks and proved
 pub checked-both : (P : State → Type 0) (F : Flags) (s : State) → P s → P (checkedForContradictions s) → P (checkForContradictions F s)
 unfolding checkForContradictions
@@ -154,12 +188,12 @@ checked-both P F s h k = cond-both P (F .skip) s (checkedForContradictions s) h 
 pub checked-length : (F : Flags) (s : State) → length (checkForContradictions F s .nodes) ≡ length (s .nodes)
 unfolding checkedForContradictions
 checked-length F s =
-    checked-both (λ (z : State). length (z .nodes) ≡ length (s .nodes)) F s refl (length-markAll (pairs (s .formulas) (s .nodes) (leaves (s .nodes))) (s .nodes))
+    checked-both (λ (z : State). length (z .nodes) ≡ length (s .nodes)) F s refl (length-marks (pairs (s .formulas) (s .nodes) (leaves (s .nodes))) (s .nodes))
 
 checked-counted : (F : Flags) (s : State) → Counted s → Counted (checkForContradictions F s)
 unfolding Counted checkedForContradictions
 checked-counted F s h =
-    checked-both Counted F s h (omega (arith, h, length-markAll (pairs (s .formulas) (s .nodes) (leaves (s .nodes))) (s .nodes)))
+    checked-both Counted F s h (omega (arith, h, length-marks (pairs (s .formulas) (s .nodes) (leaves (s .nodes))) (s .nodes)))
 
 checked-steps : (F : Flags) (s : State) → checkForContradictions F s .steps ≡ s .steps
 unfolding checkedForContradictions
@@ -210,6 +244,30 @@ pub length-rooted : (ns : List Node) → length (rooted ns) ≡ length ns
 unfolding rooted
 length-rooted [] = refl
 length-rooted (n ∷ ns) = length-chain (placedBelow nobody Root n ∷ ns) 0 Middle (upFrom (length ns) 1)
+
+-- a step keeps what waits known
+pub known-step : (F : Flags) (s : State) → Known (s .nodes) (s .waiting) → Known (step F s .nodes) (step F s .waiting)
+unfolding step stepBy checkedForContradictions appended
+known-step F s h = go (pop (s .formulas) (s .nodes) (s .waiting)) (pop-out (λ x. x < length (s .nodes)) (s .formulas) (s .nodes) (s .waiting))
+  where
+    go : (o : Option Popped) → Out (λ x. x < length (s .nodes)) (s .waiting) o → Known (stepBy F s o .nodes) (stepBy F s o .waiting)
+    go none k = h
+    go (some p) k =
+        let r = apply F s (p .node) in
+        let n = length (s .nodes) in
+        let t = s .nodes ++ r .nodes in
+        let e = length-append (s .nodes) (r .nodes) in
+        let done = known-result (r .subtrees) t (p .others) n (n + length (r .nodes)) (apply-issued F s (p .node)) (omega (arith, e)) (known-longer (s .nodes) t (p .others) (omega (arith, e)) (k .1 h .1)) in
+        checked-both (λ (z : State). Known (z .nodes) (z .waiting)) F (appended F s p) done
+        (each-map (λ x (l : x < length (appended F s p .nodes)). omega (arith, l, length-marks (pairs (appended F s p .formulas) (appended F s p .nodes) (leaves (appended F s p .nodes))) (appended F s p .nodes))) (appended F s p .waiting) done)
+
+pub known-start : (F : Flags) (rs : List Rec) → Known (start F rs .nodes) (start F rs .waiting)
+unfolding start checkedForContradictions begun
+known-start F rs =
+    let ns = branchNodes rs in
+    let done : Known (rooted ns) (reverse (below (length ns))) = each-reverse (λ x. x < length (rooted ns)) (below (length ns)) (each-map (λ x (l : x < length ns). omega (arith, l, length-rooted ns)) (below (length ns)) (below-each (length ns))) in
+    checked-both (λ (z : State). Known (z .nodes) (z .waiting)) F (begun rs) done
+    (each-map (λ x (l : x < length (rooted ns)). omega (arith, l, length-marks (pairs rs (rooted ns) (leaves (rooted ns))) (rooted ns))) (reverse (below (length ns))) done)
 
 begun-counted : (rs : List Rec) → Counted (begun rs)
 unfolding begun Counted

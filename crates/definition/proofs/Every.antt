@@ -26,7 +26,7 @@ module _ (P : Label → Type 0) where
   abbrev pub Every : List Node → Type 0
   Every t = (x : ℕ) → x < length t → P (label (nodeAt t x))
 
-  each-every : (ns : List Node) → Each (λ (n : Node). P (label n)) ns → Every ns
+  pub each-every : (ns : List Node) → Each (λ (n : Node). P (label n)) ns → Every ns
   each-every [] h x k = absurd (omega arith)
   each-every (n ∷ ns) h zero k = h .0
   each-every (n ∷ ns) h (suc x) k = each-every ns (h .1) x (omega arith)

@@ -5,3 +5,13 @@ pub mod Count
 pub mod Exact
 pub mod Every
 pub mod Accepted
+pub mod Forms
+pub mod Priest
+pub mod Clash
+pub mod Open
+pub mod Placing
+pub mod Given
+pub mod Edges
+pub mod Invariant
+pub mod Step
+pub mod Sound

@@ -194,3 +194,28 @@ module _ {A : Type 0} (p q : A → Bool) (flip : (x : A) → q x ≡ not (p x)) 
       go : (b : Bool) → p x ≡ b → (b && all p xs) ≡ false → (all p xs ≡ false → any q xs ≡ true) → (q x || any q xs) ≡ true
       go true h d k = rw (flip x, h) (k d)
       go false h d k = rw (flip x, h)
+
+pub not-true-false : (b : Bool) → (b ≡ true → ⊥) → b ≡ false
+not-true-false true h = absurd (h refl)
+not-true-false false h = refl
+
+-- what holds of one number, and of every other one, holds of all
+pub one-or-other : (P : ℕ → Type 0) (y : ℕ) → P y → ((z : ℕ) → z ≢ y → P z) → (z : ℕ) → P z
+one-or-other P y f g z = go (either (eqb z y))
+  where
+    go : (eqb z y ≡ true) ⊎ (eqb z y ≡ false) → P z
+    go (inl q) = subst P (sym (eqb-true z y q)) f
+    go (inr q) = g z (eqb-false z y q)
+
+-- a list that has an element
+abbrev pub Full : {A : Type 0} → List A → Type 0
+Full [] = ⊥
+Full (x ∷ xs) = Unit {0}
+
+full-onto : {A : Type 0} (xs ys : List A) → Full ys → Full (reverseAux xs ys)
+full-onto [] ys h = h
+full-onto (x ∷ xs) ys h = full-onto xs (x ∷ ys) tt
+
+pub full-reverse : {A : Type 0} (xs : List A) → Full xs → Full (reverse xs)
+full-reverse [] h = h
+full-reverse (x ∷ xs) h = full-onto xs (x ∷ []) tt

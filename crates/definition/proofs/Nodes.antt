@@ -2,6 +2,7 @@
 use mathlib.Core.Path.{_≡_, refl, sym, ap, _∙_, subst}
 use mathlib.Core.Bool.{Bool, true, false}
 use mathlib.Core.List.{List, [], _∷_, _++_, map}
+use mathlib.Core.Option.{Option, none, some}
 use mathlib.Core.Logic.{_⊎_, inl, inr, _≢_}
 use Prim.Native.Nat.{ℕ, zero, suc, _<_, _≤_, _+_}
 use native.Mathlib.Omega.{arith}
@@ -13,6 +14,7 @@ use Rattle.definition.specs.Lists.{filter}
 use Rattle.definition.specs.Records.{nobody}
 use Rattle.definition.specs.Tree.{Node, Place, Left, Middle, Right, newNode, nodeAt, placedBelow, withChild, markedAgainst, change, link, linkChain, leaves}
 use Rattle.definition.specs.Subtree.{Subtree, Targeted, flat, numbered, copied, appendSubtreeOnLeaf, pushSubtree, Placed, appendCopies, appendOn, takes, appendSubtree, appendLogicRuleResult}
+use Rattle.definition.specs.Contradiction.{Pair, mark, markAll}
 use Rattle.definition.proofs.Lists.{either}
 
 abbrev pub blank : Node
@@ -140,3 +142,18 @@ ext-result [] t q = ext-refl t
 ext-result (r ∷ rs) t q =
     let p = appendSubtree t q (r .target) (r .subtree) in
     ext-trans t (p .nodes) _ (ext-subtree t q (r .target) (r .subtree)) (ext-result rs (p .nodes) (p .waiting))
+
+-- marks change the contrarian, and nothing else
+pub mark-keeps : {A : Type 0} (g : Node → A) → ((j : ℕ) (n : Node) → g (markedAgainst j n) ≡ g n) → (ps : List (Option Pair)) (t : List Node) (z : ℕ) →
+    g (nodeAt (markAll t ps) z) ≡ g (nodeAt t z)
+unfolding markAll mark
+mark-keeps g k [] t z = refl
+mark-keeps g k (none ∷ ps) t z = mark-keeps g k ps t z
+mark-keeps g k (some p ∷ ps) t z =
+    mark-keeps g k ps (change t (p .later) (markedAgainst (p .earlier))) z ∙ change-keeps g t (p .later) (markedAgainst (p .earlier)) (k (p .earlier)) z
+
+pub length-marks : (ps : List (Option Pair)) (t : List Node) → length (markAll t ps) ≡ length t
+unfolding markAll mark
+length-marks [] t = refl
+length-marks (none ∷ ps) t = length-marks ps t
+length-marks (some p ∷ ps) t = length-marks ps _ ∙ length-change t (p .later) (markedAgainst (p .earlier))

@@ -1,0 +1,128 @@
+-- The formula of a record is written from the formulas of its links, and records that are appended change no formula.
+use mathlib.Core.Path.{_≡_, refl, sym, ap, _∙_, subst}
+use mathlib.Core.List.{List, [], _∷_, _++_, append-assoc}
+use mathlib.Core.Logic.{_⊎_, inl, inr}
+use mathlib.Core.Bool.{true, false}
+use Prim.Native.Nat.{ℕ, zero, suc, _<_, _≤_, _+_, _-_}
+use native.Mathlib.Omega.{arith}
+use native.Mathlib.Nat.{add-zero, add-suc, suc-add}
+use lib.Dec.{ltb}
+use borrow.Author.Tests.{ltb-true, ltb-false}
+use lib.ListN.{length, getD, take, drop, length-append, List·getD-append}
+use lib.Seq.{getD-at, getD-append-add, length-take-le, split-at}
+use Rattle.definition.specs.Lists.{Each}
+use Rattle.definition.specs.Records.{Kind, Atomic, Non, And, Or, Imply, BiImply, StrictImply, Possible, Necessary, Unknown, Comment, Rec, numberOf, arity, links, made, recAt}
+use Rattle.definition.specs.Formula.{Form, atom, formBy, written, formsAfter, forms, formAt}
+use Rattle.definition.proofs.Lists.{either, each-map}
+
+-- the links of a record are below i
+abbrev pub Linked : ℕ → Rec → Type 0
+Linked i r = Each (λ l. l < i) (links r)
+
+abbrev pub WellFormed : List Rec → Type 0
+WellFormed rs = (i : ℕ) → i < length rs → Linked i (recAt rs i)
+
+after-old : (rs : List Rec) (fs : List Form) (i : ℕ) → i < length fs → getD (formsAfter fs rs) i (atom 0) ≡ getD fs i (atom 0)
+unfolding formsAfter
+after-old [] fs i h = refl
+after-old (r ∷ rs) fs i h =
+    let new = written fs r ∷ [] in
+    after-old rs (fs ++ new) i (omega (arith, length-append fs new)) ∙ List·getD-append fs new (atom 0) i h
+
+length-after : (rs : List Rec) (fs : List Form) → length (formsAfter fs rs) ≡ length fs + length rs
+unfolding formsAfter
+length-after [] fs = omega arith
+length-after (r ∷ rs) fs = omega (arith, length-after rs (fs ++ (written fs r ∷ [])), length-append fs (written fs r ∷ []))
+
+after-append : (rs more : List Rec) (fs : List Form) → formsAfter fs (rs ++ more) ≡ formsAfter (formsAfter fs rs) more
+unfolding formsAfter
+after-append [] more fs = refl
+after-append (r ∷ rs) more fs = after-append rs more (fs ++ (written fs r ∷ []))
+
+-- appended records change no formula
+pub form-append : (rs more : List Rec) (i : ℕ) → i < length rs → formAt (rs ++ more) i ≡ formAt rs i
+form-append rs more i h = rw (after-append rs more []) (after-old more (forms rs) i (omega (arith, length-after rs [])))
+
+-- the formulas of the first and the second record appended
+pub made-first : (rs : List Rec) (r : Rec) (more : List Rec) → formAt (rs ++ (r ∷ more)) (length rs) ≡ written (forms rs) r
+unfolding formsAfter
+made-first rs r more =
+    let n : length (forms rs) ≡ length rs = omega (arith, length-after rs []) in
+    let new = written (forms rs) r ∷ [] in
+    rw (after-append rs (r ∷ more) [])
+    (after-old more (forms rs ++ new) (length rs) (omega (arith, n, length-append (forms rs) new))
+    ∙ getD-at (forms rs) (written (forms rs) r) [] (atom 0) (length rs) n)
+
+pub made-second : (rs : List Rec) (r r′ : Rec) → formAt (rs ++ (r ∷ r′ ∷ [])) (suc (length rs)) ≡ written (forms (rs ++ (r ∷ []))) r′
+made-second rs r r′ =
+    let e : length (rs ++ (r ∷ [])) ≡ suc (length rs) = omega (arith, length-append rs (r ∷ [])) in
+    rw (← append-assoc rs (r ∷ []) (r′ ∷ []), ← e) (made-first (rs ++ (r ∷ [])) r′ [])
+
+-- a record reads only the links that its kind has
+form-by : (k : Kind) (a b : ℕ) (fs gs : List Form) →
+    Each (λ l. getD fs l (atom 0) ≡ getD gs l (atom 0)) (take (arity k) (a ∷ b ∷ [])) →
+    formBy k a (getD fs a (atom 0)) (getD fs b (atom 0)) ≡ formBy k a (getD gs a (atom 0)) (getD gs b (atom 0))
+unfolding formBy arity numberOf
+form-by Atomic a b fs gs h = refl
+form-by Non a b fs gs h = cc
+form-by And a b fs gs h = cc
+form-by Or a b fs gs h = cc
+form-by Imply a b fs gs h = cc
+form-by BiImply a b fs gs h = cc
+form-by StrictImply a b fs gs h = cc
+form-by Possible a b fs gs h = cc
+form-by Necessary a b fs gs h = cc
+form-by Unknown a b fs gs h = refl
+form-by Comment a b fs gs h = refl
+
+-- the formula of a record
+pub form-at : (rs : List Rec) → WellFormed rs → (i : ℕ) → i < length rs → formAt rs i ≡ written (forms rs) (recAt rs i)
+unfolding written recAt
+form-at rs wf i h =
+    let r = recAt rs i in
+    let before = take i rs in
+    let n : length before ≡ i = length-take-le i rs (omega arith) in
+    let all : rs ≡ before ++ (r ∷ drop (suc i) rs) = split-at rs i (made Unknown 0 0) h in
+    ap (λ (xs : List Rec). formAt xs i) all
+    ∙ subst (λ (j : ℕ). formAt (before ++ (r ∷ drop (suc i) rs)) j ≡ written (forms before) r) n (made-first before r (drop (suc i) rs))
+    ∙ form-by (r .kind) (r .left) (r .right) (forms before) (forms rs)
+    (each-map (λ l (k : l < i). sym (ap (λ (xs : List Rec). formAt xs l) all ∙ form-append before (r ∷ drop (suc i) rs) l (omega (arith, n)))) (links r) (wf i h))
+
+-- P of each record and its number, counted from n
+abbrev pub Numbered : (ℕ → Rec → Type 0) → ℕ → List Rec → Type 0
+Numbered P n [] = Unit {0}
+Numbered P n (r ∷ rs) = P n r × Numbered P (suc n) rs
+
+pub numbered-of : (P : ℕ → Rec → Type 0) (rs : List Rec) (n : ℕ) → ((j : ℕ) → j < length rs → P (n + j) (recAt rs j)) → Numbered P n rs
+unfolding recAt
+numbered-of P [] n h = tt
+numbered-of P (r ∷ rs) n h = (rw add-zero at (h 0 (omega arith)), numbered-of P rs (suc n) (λ j k. rw suc-add (rw add-suc at (h (suc j) (omega arith)))))
+
+pub numbered-at : (P : ℕ → Rec → Type 0) (rs : List Rec) (n j : ℕ) → Numbered P n rs → j < length rs → P (n + j) (recAt rs j)
+unfolding recAt
+numbered-at P [] n j l h = absurd (omega arith)
+numbered-at P (r ∷ rs) n zero l h = rw add-zero (l .0)
+numbered-at P (r ∷ rs) n (suc j) l h = rw (add-suc, ← suc-add) (numbered-at P rs (suc n) j (l .1) (omega arith))
+
+pub numbered-map : {P Q : ℕ → Rec → Type 0} → ((n : ℕ) (r : Rec) → P n r → Q n r) → (rs : List Rec) (n : ℕ) → Numbered P n rs → Numbered Q n rs
+numbered-map f [] n h = tt
+numbered-map f (r ∷ rs) n h = (f n r (h .0), numbered-map f rs (suc n) (h .1))
+
+pub numbered-each : {P : ℕ → Rec → Type 0} {Q : Rec → Type 0} {m : ℕ} → ((n : ℕ) (r : Rec) → n < m → P n r → Q r) →
+    (rs : List Rec) (n : ℕ) → n + length rs ≤ m → Numbered P n rs → Each Q rs
+numbered-each f [] n h l = tt
+numbered-each f (r ∷ rs) n h l = (f n r (omega arith) (l .0), numbered-each f rs (suc n) (omega arith) (l .1))
+
+-- records whose links are below their own number
+pub wf-append : (more rs : List Rec) → WellFormed rs → Numbered Linked (length rs) more → WellFormed (rs ++ more)
+unfolding recAt
+wf-append more rs wf l i h = go (either (ltb i (length rs)))
+  where
+    go : (ltb i (length rs) ≡ true) ⊎ (ltb i (length rs) ≡ false) → Linked i (recAt (rs ++ more) i)
+    go (inl q) =
+        let k = ltb-true i (length rs) q in
+        rw (List·getD-append rs more (made Unknown 0 0) i k) (wf i k)
+    go (inr q) =
+        let j = i - length rs in
+        let e : i ≡ length rs + j = omega (arith, ltb-false i (length rs) q) in
+        rw (e, getD-append-add rs more j (made Unknown 0 0)) (numbered-at Linked more (length rs) j l (omega (arith, length-append rs more, e)))
