@@ -1,9 +1,9 @@
 -- Nodes whose formulas are true do not contradict one another.
 use mathlib.Core.Path.{_≡_, refl, sym, ap, _∙_, subst}
-use mathlib.Core.Bool.{Bool, true, false, not, _&&_, cond, Bool·beq}
+use mathlib.Core.Bool.{Bool, true, false, not, _&&_, Bool·beq}
 use mathlib.Core.List.{List, [], _∷_, reverse}
 use mathlib.Core.Option.{none}
-use mathlib.Core.Logic.{_⊎_, inl, inr}
+use mathlib.Core.Logic.{_⊎_, inl, inr, ⊎-elim}
 use Prim.Native.Nat.{ℕ, _<_}
 use native.Mathlib.Omega.{arith}
 use lib.Dec.{eqb}
@@ -11,7 +11,7 @@ use borrow.Author.Tests.{eqb-true, not-false}
 use lib.ListN.{length, getD, take}
 use Rattle.definition.specs.Lists.{Each, find, same}
 use Rattle.definition.specs.Records.{nobody, isNobody, Kind, Atomic, Non, And, Or, Imply, BiImply, StrictImply, Possible, Necessary, Unknown, Comment, Rec, numberOf, is, arity, links, made, recAt, formulaOf}
-use Rattle.definition.specs.Formula.{Form, atom, non, biImply, formBy, written, formAt}
+use Rattle.definition.specs.Formula.{atom, formBy, written, formAt}
 use Rattle.definition.specs.Models.{Model, truth}
 use Rattle.definition.specs.Tree.{Node, nodeAt}
 use Rattle.definition.specs.Contradiction.{both, inner, atomOf, atomsOf, said, denied, opposed, areFormulasContradictory, areNodesContradictory, getContradictoryNodeIds}
@@ -49,15 +49,6 @@ same-eq [] (y ∷ ys) e = true-false (sym e)
 same-eq (x ∷ xs) [] e = true-false (sym e)
 same-eq (x ∷ xs) (y ∷ ys) e = cc (eqb-true x y (and-left (eqb x y) (same xs ys) e), same-eq xs ys (and-right (eqb x y) (same xs ys) e))
 
--- the branch taken, by how the test comes out
-by-test : {A : Type 0} (P : A → Type 0) (b : Bool) (x y : A) → (b ≡ true → P x) → (b ≡ false → P y) → P (cond b x y)
-by-test P true x y h k = h refl
-by-test P false x y h k = k refl
-
-by-and : (a b : Bool) → (a ≡ true → b ≡ false) → (a && b) ≡ false
-by-and true b h = h refl
-by-and false b h = refl
-
 find-none : {A : Type 0} (p : A → Bool) (xs : List A) → Each (λ x. p x ≡ false) xs → find p xs ≡ none
 find-none p [] h = refl
 find-none p (x ∷ xs) h = rw (h .0) (find-none p xs (h .1))
@@ -69,18 +60,13 @@ module _ (M : Model) (w : ℕ) where
   Tells b (x ∷ []) = M .value w x ≡ b
   Tells b (x ∷ y ∷ rest) = Bool·beq (M .value w x) (M .value w y) ≡ b
 
-  tells-once : (x : ℕ) (xs : List ℕ) → Tells true (x ∷ xs) → Tells false (x ∷ xs) → ⊥
-  tells-once x [] h k = true-false (sym h ∙ k)
-  tells-once x (y ∷ rest) h k = true-false (sym h ∙ k)
-
   not-opposed : (xs ys : List ℕ) → Tells true xs → Tells false ys → opposed xs ys ≡ false
   unfolding opposed
   not-opposed [] ys h k = refl
-  not-opposed (x ∷ xs) ys h k = go (either (same (x ∷ xs) ys))
-    where
-      go : (same (x ∷ xs) ys ≡ true) ⊎ (same (x ∷ xs) ys ≡ false) → same (x ∷ xs) ys ≡ false
-      go (inl q) = absurd (tells-once x xs h (subst (Tells false) (sym (same-eq (x ∷ xs) ys q)) k))
-      go (inr q) = q
+  not-opposed (x ∷ []) ys h k =
+      ⊎-elim (λ q. true-false (sym h ∙ subst (Tells false) (sym (same-eq (x ∷ []) ys q)) k)) (λ q. q) (either (same (x ∷ []) ys))
+  not-opposed (x ∷ y ∷ xs) ys h k =
+      ⊎-elim (λ q. true-false (sym h ∙ subst (Tells false) (sym (same-eq (x ∷ y ∷ xs) ys q)) k)) (λ q. q) (either (same (x ∷ y ∷ xs) ys))
 
 -- the record number i is no atom, or its formula is the atom
 abbrev Atom : List Rec → ℕ → List ℕ → Type 0
@@ -99,7 +85,7 @@ module _ (M : Model) (rs : List Rec) (wf : WellFormed rs) (w : ℕ) where
   unfolding atomOf formBy
   atom-form i h =
       let r = recAt rs i in
-      by-test (Atom rs i) (is Atomic r) (r .left ∷ []) [] (λ q. inr (r .left, refl, kind-form Atomic i h q .1)) (λ q. inl refl)
+      ⊎-elim (λ q. rw q (inr (r .left, refl, kind-form Atomic i h q .1))) (λ q. rw q (inl refl)) (either (is Atomic r))
 
   one-tells : (b : Bool) (i : ℕ) (xs : List ℕ) → Atom rs i xs → truth M (formAt rs i) w ≡ b → Tells M w b xs
   unfolding truth
@@ -117,9 +103,10 @@ module _ (M : Model) (rs : List Rec) (wf : WellFormed rs) (w : ℕ) where
   unfolding atomsOf truth formBy arity numberOf
   atoms-tell b i h e =
       let r = recAt rs i in
-      by-test (Tells M w b) (is BiImply r) (both (atomOf rs (inner rs r)) (atomOf rs (recAt rs (r .right)))) (atomOf rs r)
-      (λ q. let f = kind-form BiImply i h q in two-tell b (r .left) (r .right) _ _ (atom-form (r .left) (f .0 .0)) (atom-form (r .right) (f .0 .1 .0)) (rw (f .1) at e))
-      (λ q. one-tells b i _ (atom-form i h) e)
+      ⊎-elim (λ q.
+      let f = kind-form BiImply i h q in
+      rw q (two-tell b (r .left) (r .right) _ _ (atom-form (r .left) (f .0 .0)) (atom-form (r .right) (f .0 .1 .0)) (rw (f .1) at e)))
+      (λ q. rw q (one-tells b i _ (atom-form i h) e)) (either (is BiImply r))
 
   -- a record Non denies the formula of its link
   non-form : (b : Bool) (i : ℕ) → i < length rs → is Non (recAt rs i) ≡ true → truth M (formAt rs i) w ≡ b →
@@ -132,20 +119,18 @@ module _ (M : Model) (rs : List Rec) (wf : WellFormed rs) (w : ℕ) where
   said-tells i h =
       let r = recAt rs i in
       let x = inner rs r in
-      by-test (Tells M w true) (is Non r && is Non x) (atomOf rs (inner rs x)) (atomsOf rs r)
-      (λ q.
+      ⊎-elim (λ q.
       let a = non-form true i (h .known) (and-left (is Non r) (is Non x) q) (h .holds) in
       let b = non-form false (r .left) (a .0) (and-right (is Non r) (is Non x) q) (not-true _ (a .1)) in
-      one-tells true (x .left) _ (atom-form (x .left) (b .0)) (not-false _ (b .1)))
-      (λ q. atoms-tell true i (h .known) (h .holds))
+      rw q (one-tells true (x .left) _ (atom-form (x .left) (b .0)) (not-false _ (b .1))))
+      (λ q. rw q (atoms-tell true i (h .known) (h .holds))) (either (is Non r && is Non x))
 
   denied-tells : (i : ℕ) → Holds M rs w i → Tells M w false (denied rs (recAt rs i))
   unfolding denied
   denied-tells i h =
       let r = recAt rs i in
-      by-test (Tells M w false) (is Non r) (atomsOf rs (inner rs r)) []
-      (λ q. let a = non-form true i (h .known) q (h .holds) in atoms-tell false (r .left) (a .0) (not-true _ (a .1)))
-      (λ q. tt)
+      ⊎-elim (λ q. let a = non-form true i (h .known) q (h .holds) in rw q (atoms-tell false (r .left) (a .0) (not-true _ (a .1))))
+      (λ q. rw q tt) (either (is Non r))
 
   -- a node's formula tells rightly what it says and denies
   formula-tells : (f : ℕ) → Sat M rs w f → Tells M w true (said rs (formulaOf rs f)) × Tells M w false (denied rs (formulaOf rs f))
@@ -174,8 +159,8 @@ module _ (M : Model) (rs : List Rec) (wf : WellFormed rs) (img : ℕ → ℕ) (t
   no-contradiction x y h k =
       let a = nodeAt t x in
       let b = nodeAt t y in
-      by-and (eqb (a .world) (b .world)) _
-      (λ q. never-contradictory M rs wf (img (a .world)) (a .formula) (b .formula) h (rw (eqb-true (a .world) (b .world) q) k))
+      ⊎-elim (λ q. rw q (never-contradictory M rs wf (img (a .world)) (a .formula) (b .formula) h (rw (eqb-true (a .world) (b .world) q) k)))
+      (λ q. rw q) (either (eqb (a .world) (b .world)))
 
   pub no-pair : (xs : List ℕ) → Each (λ x. Sat M rs (img (nodeAt t x .world)) (nodeAt t x .formula)) xs → getContradictoryNodeIds rs t xs ≡ none
   unfolding getContradictoryNodeIds

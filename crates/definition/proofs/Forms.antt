@@ -1,9 +1,8 @@
 -- The formula of a record is written from the formulas of its links, and records that are appended change no formula.
 use mathlib.Core.Path.{_≡_, refl, sym, ap, _∙_, subst}
-use mathlib.Core.List.{List, [], _∷_, _++_, append-assoc}
-use mathlib.Core.Logic.{_⊎_, inl, inr}
-use mathlib.Core.Bool.{true, false}
-use Prim.Native.Nat.{ℕ, zero, suc, _<_, _≤_, _+_, _-_}
+use mathlib.Core.List.{List, [], _∷_, _++_, append-nil, append-assoc}
+use mathlib.Core.Logic.{⊎-elim}
+use Prim.Native.Nat.{ℕ, zero, suc, _<_, _+_, _-_}
 use native.Mathlib.Omega.{arith}
 use native.Mathlib.Nat.{add-zero, add-suc, suc-add}
 use lib.Dec.{ltb}
@@ -22,17 +21,16 @@ Linked i r = Each (λ l. l < i) (links r)
 abbrev pub WellFormed : List Rec → Type 0
 WellFormed rs = (i : ℕ) → i < length rs → Linked i (recAt rs i)
 
-after-old : (rs : List Rec) (fs : List Form) (i : ℕ) → i < length fs → getD (formsAfter fs rs) i (atom 0) ≡ getD fs i (atom 0)
+-- the formulas that are there stay in front, and each record adds one
+after : (rs : List Rec) (fs : List Form) → (gs : List Form) × (formsAfter fs rs ≡ fs ++ gs) × (length gs ≡ length rs)
 unfolding formsAfter
-after-old [] fs i h = refl
-after-old (r ∷ rs) fs i h =
-    let new = written fs r ∷ [] in
-    after-old rs (fs ++ new) i (omega (arith, length-append fs new)) ∙ List·getD-append fs new (atom 0) i h
+after [] fs = ([], sym (append-nil fs), refl)
+after (r ∷ rs) fs =
+    let k = after rs (fs ++ (written fs r ∷ [])) in
+    (written fs r ∷ k .0, k .1 ∙ append-assoc fs (written fs r ∷ []) (k .0), ap suc (k .2))
 
-length-after : (rs : List Rec) (fs : List Form) → length (formsAfter fs rs) ≡ length fs + length rs
-unfolding formsAfter
-length-after [] fs = omega arith
-length-after (r ∷ rs) fs = omega (arith, length-after rs (fs ++ (written fs r ∷ [])), length-append fs (written fs r ∷ []))
+length-forms : (rs : List Rec) → length (forms rs) ≡ length rs
+length-forms rs = ap length (after rs [] .1) ∙ after rs [] .2
 
 after-append : (rs more : List Rec) (fs : List Form) → formsAfter fs (rs ++ more) ≡ formsAfter (formsAfter fs rs) more
 unfolding formsAfter
@@ -41,17 +39,15 @@ after-append (r ∷ rs) more fs = after-append rs more (fs ++ (written fs r ∷ 
 
 -- appended records change no formula
 pub form-append : (rs more : List Rec) (i : ℕ) → i < length rs → formAt (rs ++ more) i ≡ formAt rs i
-form-append rs more i h = rw (after-append rs more []) (after-old more (forms rs) i (omega (arith, length-after rs [])))
+form-append rs more i h =
+    let k = after more (forms rs) in
+    rw (after-append rs more [], k .1) (List·getD-append (forms rs) (k .0) (atom 0) i (omega (arith, length-forms rs)))
 
 -- the formulas of the first and the second record appended
 pub made-first : (rs : List Rec) (r : Rec) (more : List Rec) → formAt (rs ++ (r ∷ more)) (length rs) ≡ written (forms rs) r
-unfolding formsAfter
+unfolding after
 made-first rs r more =
-    let n : length (forms rs) ≡ length rs = omega (arith, length-after rs []) in
-    let new = written (forms rs) r ∷ [] in
-    rw (after-append rs (r ∷ more) [])
-    (after-old more (forms rs ++ new) (length rs) (omega (arith, n, length-append (forms rs) new))
-    ∙ getD-at (forms rs) (written (forms rs) r) [] (atom 0) (length rs) n)
+    rw (after-append rs (r ∷ more) [], after (r ∷ more) (forms rs) .1) (getD-at (forms rs) (written (forms rs) r) _ (atom 0) (length rs) (length-forms rs))
 
 pub made-second : (rs : List Rec) (r r′ : Rec) → formAt (rs ++ (r ∷ r′ ∷ [])) (suc (length rs)) ≡ written (forms (rs ++ (r ∷ []))) r′
 made-second rs r r′ =
@@ -104,25 +100,11 @@ numbered-at P [] n j l h = absurd (omega arith)
 numbered-at P (r ∷ rs) n zero l h = rw add-zero (l .0)
 numbered-at P (r ∷ rs) n (suc j) l h = rw (add-suc, ← suc-add) (numbered-at P rs (suc n) j (l .1) (omega arith))
 
-pub numbered-map : {P Q : ℕ → Rec → Type 0} → ((n : ℕ) (r : Rec) → P n r → Q n r) → (rs : List Rec) (n : ℕ) → Numbered P n rs → Numbered Q n rs
-numbered-map f [] n h = tt
-numbered-map f (r ∷ rs) n h = (f n r (h .0), numbered-map f rs (suc n) (h .1))
-
-pub numbered-each : {P : ℕ → Rec → Type 0} {Q : Rec → Type 0} {m : ℕ} → ((n : ℕ) (r : Rec) → n < m → P n r → Q r) →
-    (rs : List Rec) (n : ℕ) → n + length rs ≤ m → Numbered P n rs → Each Q rs
-numbered-each f [] n h l = tt
-numbered-each f (r ∷ rs) n h l = (f n r (omega arith) (l .0), numbered-each f rs (suc n) (omega arith) (l .1))
-
 -- records whose links are below their own number
 pub wf-append : (more rs : List Rec) → WellFormed rs → Numbered Linked (length rs) more → WellFormed (rs ++ more)
 unfolding recAt
-wf-append more rs wf l i h = go (either (ltb i (length rs)))
-  where
-    go : (ltb i (length rs) ≡ true) ⊎ (ltb i (length rs) ≡ false) → Linked i (recAt (rs ++ more) i)
-    go (inl q) =
-        let k = ltb-true i (length rs) q in
-        rw (List·getD-append rs more (made Unknown 0 0) i k) (wf i k)
-    go (inr q) =
-        let j = i - length rs in
-        let e : i ≡ length rs + j = omega (arith, ltb-false i (length rs) q) in
-        rw (e, getD-append-add rs more j (made Unknown 0 0)) (numbered-at Linked more (length rs) j l (omega (arith, length-append rs more, e)))
+wf-append more rs wf l i h =
+    let j = i - length rs in
+    ⊎-elim (λ q. let k = ltb-true i (length rs) q in rw (List·getD-append rs more (made Unknown 0 0) i k) (wf i k))
+    (λ q. let e : i ≡ length rs + j = omega (arith, ltb-false i (length rs) q) in
+    rw (e, getD-append-add rs more j (made Unknown 0 0)) (numbered-at Linked more (length rs) j l (omega (arith, length-append rs more, e)))) (either (ltb i (length rs)))

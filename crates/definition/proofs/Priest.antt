@@ -1,22 +1,23 @@
 -- The rule chosen on records is Priest's rule of the formula, and the rules keep truth.
-use mathlib.Core.Path.{_≡_, refl, sym, ap, _∙_, subst}
+use mathlib.Core.Path.{_≡_, refl, sym, ap, _∙_}
 use mathlib.Core.Bool.{Bool, true, false, not, _&&_, _||_, cond, Bool·beq}
 use mathlib.Core.List.{List, [], _∷_, _++_, map}
-use mathlib.Core.Logic.{_⊎_, inl, inr}
-use Prim.Native.Nat.{ℕ, zero, suc, _<_, _≤_, _+_}
+use mathlib.Core.Logic.{_⊎_, ⊎-elim, ⊎-map}
+use Prim.Native.Nat.{ℕ, _<_, _≤_, _+_}
 use native.Mathlib.Omega.{arith}
 use lib.Dec.{ltb}
 use borrow.Author.Tests.{ltb-true, ltb-false, eqb-true}
-use lib.ListN.{length, getD, take, length-append, List·getD-append, List·getD-eq-default}
+use lib.ListN.{length, take, length-append, List·getD-append, List·getD-eq-default}
 use lib.Seq.{getD-append-add}
-use Rattle.definition.specs.Lists.{Each, any, all, below}
+use Rattle.definition.specs.Lists.{Each, all, below}
 use Rattle.definition.specs.Records.{nobody, isNobody, Kind, Atomic, Non, And, Or, Imply, BiImply, StrictImply, Possible, Necessary, Unknown, Comment, Rec, numberOf, arity, links, made, recAt, formulaOf}
-use Rattle.definition.specs.Formula.{Form, atom, non, and, or, imply, biImply, strictImply, possible, necessary, formBy, written, forms, formAt}
+use Rattle.definition.specs.Formula.{Form, atom, non, and, or, imply, biImply, strictImply, possible, necessary, formBy, written, formAt}
 use Rattle.definition.specs.Models.{Model, truth}
 use Rattle.definition.specs.Rules.{Rule, nothing, down, split, asPossible, asNecessary, priestNon, priest, Expansion, makes, nonExpansion, expansionBy, expansion, writtenRule}
-use Rattle.definition.proofs.Lists.{and-left, and-right, and-both, or-cases, not-true, either, cond-both, each-map, all-each, any-below, all-below, any-false-all, all-false-any, true-false, Full}
-use Rattle.definition.proofs.Forms.{Linked, WellFormed, Numbered, numbered-of, numbered-map, numbered-each, wf-append, form-at, form-append}
+use Rattle.definition.proofs.Lists.{and-left, and-right, and-both, or-cases, not-true, either, cond-both, each-map, all-each, any-below, all-below, any-false-all, all-false-any, Full}
+use Rattle.definition.proofs.Forms.{Linked, WellFormed, Numbered, numbered-of, wf-append, form-at, form-append}
 
+-- no side of a split is empty
 abbrev pub Filled : Rule ℕ → Type 0
 Filled nothing = Unit {0}
 Filled (down fs) = Unit {0}
@@ -32,9 +33,9 @@ Known n (split fs gs) = Each (λ f. f < n) fs × Each (λ f. f < n) gs
 Known n (asPossible f) = f < n
 Known n (asNecessary f) = f < n
 
--- the record number n, as rules make them
-abbrev Made : ℕ → Rec → Type 0
-Made n r = (numberOf (r .kind) ≤ 8) × (r .mark ≡ 0) × (r .left < n) × (r .right < n)
+-- a record that fits its bytes, where record numbers are below n
+abbrev pub Fit : ℕ → Rec → Type 0
+Fit n r = (numberOf (r .kind) ≤ 8) × (r .mark ≡ 0) × (r .left < n) × (r .right < n)
 
 -- a record's formula, by those of its links
 abbrev By : (ℕ → Form) → Rec → Form
@@ -47,13 +48,8 @@ Writes form n r = form n ≡ By form r
 record Good (m : ℕ) (Links : Type 0) (Forms : (ℕ → Form) → Type 0) (e : Expansion) (rule : (ℕ → Form) → Rule Form) : Type 0 where
   filled : Filled (e .rule)
   two : length (e .made) ≤ 2
-  bound : Links → Numbered Made m (e .made) × Known (m + length (e .made)) (e .rule)
+  bound : Links → Numbered Linked m (e .made) × Each (Fit (m + 2)) (e .made) × Known (m + length (e .made)) (e .rule)
   table : (form : ℕ → Form) → Forms form → Numbered (Writes form) m (e .made) → writtenRule form (e .rule) ≡ rule form
-
-each-take : (P : ℕ → Type 0) (n : ℕ) (xs : List ℕ) → Each P xs → Each P (take n xs)
-each-take P zero xs h = tt
-each-take P (suc n) [] h = tt
-each-take P (suc n) (x ∷ xs) h = (h .0, each-take P n xs (h .1))
 
 module _ (rs more : List Rec) (wf : WellFormed (rs ++ more)) where
   says : (i : ℕ) → i < length rs → Writes (formAt (rs ++ more)) i (recAt rs i)
@@ -62,8 +58,7 @@ module _ (rs more : List Rec) (wf : WellFormed (rs ++ more)) where
 
   says-more : Numbered (Writes (formAt (rs ++ more))) (length rs) more
   unfolding written recAt
-  says-more =
-      numbered-of (Writes (formAt (rs ++ more))) more (length rs)
+  says-more = numbered-of (Writes (formAt (rs ++ more))) more (length rs)
       (λ j h. form-at (rs ++ more) wf (length rs + j) (omega (arith, length-append rs more)) ∙ ap (By (formAt (rs ++ more))) (getD-append-add rs more j (made Unknown 0 0)))
 
 non-good : (k : Kind) (m p q : ℕ) →
@@ -120,28 +115,22 @@ module _ (rs : List Rec) where
   module _ (wf : WellFormed rs) where
     linked-any : (f : ℕ) → Linked (length rs) (recAt rs f)
     unfolding recAt arity numberOf
-    linked-any f = go (either (ltb f (length rs)))
-      where
-        go : (ltb f (length rs) ≡ true) ⊎ (ltb f (length rs) ≡ false) → Linked (length rs) (recAt rs f)
-        go (inl q) =
-            let k = ltb-true f (length rs) q in
-            each-map (λ l (h : l < f). omega arith) (links (recAt rs f)) (wf f k)
-        go (inr q) = rw (List·getD-eq-default rs (made Unknown 0 0) (ltb-false f (length rs) q)) tt
+    linked-any f =
+        ⊎-elim (λ q. let k = ltb-true f (length rs) q in each-map (λ l (h : l < f). omega arith) (links (recAt rs f)) (wf f k))
+        (λ q. rw (List·getD-eq-default rs (made Unknown 0 0) (ltb-false f (length rs) q)) tt) (either (ltb f (length rs)))
 
-    linked-formula : (f : ℕ) → Linked (length rs) (formulaOf rs f)
+    linked : (f : ℕ) → Linked (length rs) (formulaOf rs f) × Linked (length rs) (recAt rs (formulaOf rs f .left))
     unfolding formulaOf arity numberOf
-    linked-formula f = cond-both (Linked (length rs)) (isNobody f) (made Comment 0 0) (recAt rs f) tt (linked-any f)
-
-    bounds : (f : ℕ) → Numbered Made (length rs) (expansion rs f .made) × Known (length rs + length (expansion rs f .made)) (expansion rs f .rule)
-    bounds f = good f .bound (linked-formula f, linked-any (formulaOf rs f .left))
+    linked f = (cond-both (Linked (length rs)) (isNobody f) (made Comment 0 0) (recAt rs f) tt (linked-any f), linked-any (formulaOf rs f .left))
 
     pub expansion-wf : (f : ℕ) → WellFormed (rs ++ expansion rs f .made)
-    expansion-wf f = wf-append (expansion rs f .made) rs wf (numbered-map (λ n r (h : Made n r). each-take (λ l. l < n) (arity (r .kind)) (r .left ∷ r .right ∷ []) (h .2, (h .3, tt))) (expansion rs f .made) (length rs) (bounds f .0))
+    expansion-wf f = wf-append (expansion rs f .made) rs wf (good f .bound (linked f) .0)
 
-    -- the records that a rule makes fit their bytes
-    pub made-fit : (f : ℕ) →
-        Each (λ (r : Rec). (numberOf (r .kind) ≤ 8) × (r .mark ≡ 0) × (r .left < length rs + 2) × (r .right < length rs + 2)) (expansion rs f .made)
-    made-fit f = numbered-each (λ n r (h : n < length rs + 2) (m : Made n r). (m .0, m .1, omega (arith, m .2), omega (arith, m .3))) (expansion rs f .made) (length rs) (omega (arith, made-two f)) (bounds f .0)
+    pub made-fit : (f : ℕ) → Each (Fit (length rs + 2)) (expansion rs f .made)
+    made-fit f = good f .bound (linked f) .1
+
+    pub rule-known : (f : ℕ) → Known (length (rs ++ expansion rs f .made)) (expansion rs f .rule)
+    rule-known f = rw (length-append rs (expansion rs f .made)) (good f .bound (linked f) .2)
 
     -- the rule of a formula is Priest's
     pub rule-is-priest : (f : ℕ) → f < length rs → isNobody f ≡ false →
@@ -151,7 +140,7 @@ module _ (rs : List Rec) where
         let e = expansion rs f in
         let form = formAt (rs ++ e .made) in
         let more = expansion-wf f in
-        good f .table form (λ k. says rs (e .made) more (formulaOf rs f .left) ((rw k at (linked-formula f)) .0)) (says-more rs (e .made) more)
+        good f .table form (λ k. says rs (e .made) more (formulaOf rs f .left) ((rw k at (linked f .0)) .0)) (says-more rs (e .made) more)
         ∙ ap priest (ap (λ (b : Bool). By form (cond b (made Comment 0 0) (recAt rs f))) ne ∙ sym (says rs (e .made) more f h) ∙ form-append rs (e .made) f h)
 
 -- the formula number f is true at world w
@@ -176,10 +165,6 @@ True M w r = Claims M (λ v p. truth M p v ≡ true) w r
 abbrev pub Fits : Model → List Rec → ℕ → Rule ℕ → Type 0
 Fits M rs w r = Claims M (Holds M rs) w r
 
-reached : (a b : Bool) → a ≡ true → (not a || b) ≡ true → b ≡ true
-reached true b e h = h
-reached false b e h = true-false (sym e)
-
 some-not : (a b : Bool) → (a && not b) ≡ not (not a || b)
 some-not true b = refl
 some-not false b = refl
@@ -196,7 +181,7 @@ of-both p h false = all-each p (true ∷ false ∷ []) h .1 .0
 taut : (f g : Bool → Bool → Bool) → all (λ a. all (λ b. not (f a b) || g a b) (true ∷ false ∷ [])) (true ∷ false ∷ []) ≡ true →
     (a b : Bool) → f a b ≡ true → g a b ≡ true
 taut f g h a b e =
-    reached (f a b) (g a b) e (of-both (λ y. not (f a y) || g a y) (of-both (λ x. all (λ y. not (f x y) || g x y) (true ∷ false ∷ [])) h a) b)
+    rw e at (of-both (λ y. not (f a y) || g a y) (of-both (λ x. all (λ y. not (f x y) || g x y) (true ∷ false ∷ [])) h a) b)
 
 module _ (M : Model) (w : ℕ) where
   -- True, as a test
@@ -211,17 +196,11 @@ module _ (M : Model) (w : ℕ) where
   unfolding truth
   true-test nothing e = tt
   true-test (down ps) e = all-each (λ p. truth M p w) ps e
-  true-test (split ps qs) e = go (or-cases (all (λ p. truth M p w) ps) (all (λ p. truth M p w) qs) e)
-    where
-      go : (all (λ p. truth M p w) ps ≡ true) ⊎ (all (λ p. truth M p w) qs ≡ true) → True M w (split ps qs)
-      go (inl d) = inl (all-each (λ p. truth M p w) ps d)
-      go (inr d) = inr (all-each (λ p. truth M p w) qs d)
+  true-test (split ps qs) e = ⊎-map (all-each (λ p. truth M p w) ps) (all-each (λ p. truth M p w) qs) (or-cases _ _ e)
   true-test (asPossible p) e =
-      let found = any-below (λ v. M .reach w v && truth M p v) (M .size) e in
-      let v = found .0 in
-      (v, found .1, and-left (M .reach w v) (truth M p v) (found .2), and-right (M .reach w v) (truth M p v) (found .2))
-  true-test (asNecessary p) e =
-      λ v h k. reached (M .reach w v) (truth M p v) k (all-below (λ u. not (M .reach w u) || truth M p u) (M .size) e v h)
+      let v = any-below (λ u. M .reach w u && truth M p u) (M .size) e in
+      (v .0, v .1, and-left (M .reach w (v .0)) _ (v .2), and-right (M .reach w (v .0)) _ (v .2))
+  true-test (asNecessary p) e = λ v h k. rw k at (all-below (λ u. not (M .reach w u) || truth M p u) (M .size) e v h)
 
   non-test : (p : Form) → not (truth M p w) ≡ true → true? (priestNon p) ≡ true
   unfolding truth priestNon
@@ -232,11 +211,9 @@ module _ (M : Model) (w : ℕ) where
   non-test (imply p q) e = taut (λ a b. not (not a || b)) (λ a b. a && (not b && true)) refl (truth M p w) (truth M q w) e
   non-test (biImply p q) e =
       taut (λ a b. not (Bool·beq a b)) (λ a b. (a && (not b && true)) || (not a && (b && true))) refl (truth M p w) (truth M q w) e
-  non-test (strictImply p q) e =
-      all-false-any (λ v. not (M .reach w v) || truth M (imply p q) v) (λ v. M .reach w v && not (truth M (imply p q) v))
-      (λ v. some-not (M .reach w v) (truth M (imply p q) v)) (below (M .size)) (not-true _ e)
-  non-test (possible p) e = and-both _ true (any-false-all (λ v. M .reach w v && truth M p v) (λ v. not (M .reach w v) || not (truth M p v)) (λ v. each-not (M .reach w v) (truth M p v)) (below (M .size)) (not-true _ e)) refl
-  non-test (necessary p) e = and-both _ true (all-false-any (λ v. not (M .reach w v) || truth M p v) (λ v. M .reach w v && not (truth M p v)) (λ v. some-not (M .reach w v) (truth M p v)) (below (M .size)) (not-true _ e)) refl
+  non-test (strictImply p q) e = all-false-any _ _ (λ v. some-not (M .reach w v) (truth M (imply p q) v)) (below (M .size)) (not-true _ e)
+  non-test (possible p) e = and-both _ true (any-false-all _ _ (λ v. each-not (M .reach w v) (truth M p v)) (below (M .size)) (not-true _ e)) refl
+  non-test (necessary p) e = and-both _ true (all-false-any _ _ (λ v. some-not (M .reach w v) (truth M p v)) (below (M .size)) (not-true _ e)) refl
 
   test : (p : Form) → truth M p w ≡ true → true? (priest p) ≡ true
   unfolding truth priest
@@ -245,8 +222,7 @@ module _ (M : Model) (w : ℕ) where
   test (and p q) e = taut (λ a b. a && b) (λ a b. a && (b && true)) refl (truth M p w) (truth M q w) e
   test (or p q) e = taut (λ a b. a || b) (λ a b. (a && true) || (b && true)) refl (truth M p w) (truth M q w) e
   test (imply p q) e = taut (λ a b. not a || b) (λ a b. (not a && true) || (b && true)) refl (truth M p w) (truth M q w) e
-  test (biImply p q) e =
-      taut Bool·beq (λ a b. (a && (b && true)) || (not a && (not b && true))) refl (truth M p w) (truth M q w) e
+  test (biImply p q) e = taut Bool·beq (λ a b. (a && (b && true)) || (not a && (not b && true))) refl (truth M p w) (truth M q w) e
   test (strictImply p q) e = e
   test (possible p) e = e
   test (necessary p) e = e
@@ -264,19 +240,15 @@ fits-written : (M : Model) (rs : List Rec) (w : ℕ) (r : Rule ℕ) → Known (l
 unfolding writtenRule
 fits-written M rs w nothing k h = tt
 fits-written M rs w (down fs) k h = each-holds M rs w fs k h
-fits-written M rs w (split fs gs) k (inl h) = inl (each-holds M rs w fs (k .0) h)
-fits-written M rs w (split fs gs) k (inr h) = inr (each-holds M rs w gs (k .1) h)
+fits-written M rs w (split fs gs) k h = ⊎-map (each-holds M rs w fs (k .0)) (each-holds M rs w gs (k .1)) h
 fits-written M rs w (asPossible f) k h = (h .0, h .1, h .2, record { known = k; holds = h .3 })
 fits-written M rs w (asNecessary f) k h = λ v a b. record { known = k; holds = h v a b }
 
 -- the rule of a formula that is true at w
 pub rule-fits : (M : Model) (rs : List Rec) → WellFormed rs → (f w : ℕ) → Holds M rs w f →
     Fits M (rs ++ expansion rs f .made) w (expansion rs f .rule)
-rule-fits M rs wf f w h = go (either (isNobody f))
-  where
-    go : (isNobody f ≡ true) ⊎ (isNobody f ≡ false) → Fits M (rs ++ expansion rs f .made) w (expansion rs f .rule)
-    go (inl q) = rw (eqb-true f nobody q, no-rule rs) tt
-    go (inr q) =
-        let e = expansion rs f in
-        fits-written M (rs ++ e .made) w (e .rule) (rw (length-append rs (e .made)) (bounds rs wf f .1))
-        (rw (rule-is-priest rs wf f (h .known) q) (priest-true M w (formAt rs f) (h .holds)))
+rule-fits M rs wf f w h =
+    let e = expansion rs f in
+    ⊎-elim (λ q. rw (eqb-true f nobody q, no-rule rs) tt)
+    (λ q. fits-written M (rs ++ e .made) w (e .rule) (rule-known rs wf f)
+    (rw (rule-is-priest rs wf f (h .known) q) (priest-true M w (formAt rs f) (h .holds)))) (either (isNobody f))
