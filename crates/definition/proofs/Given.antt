@@ -14,8 +14,8 @@ use Rattle.definition.specs.Records.{nobody, isNobody}
 use Rattle.definition.specs.Graph.{Graph, edge, reached}
 use Rattle.definition.specs.Tree.{Node, newNode, nodeAt, upward, leaves, path}
 use Rattle.definition.specs.Subtree.{Targeted, withMiddle}
-use Rattle.definition.specs.Modality.{Necessity, Fork, Made, runsThrough, forkedOn, occurs, unvisited, giveOn, leavesOf, reapplyNecessity, isReapplied, reapplyIfOnPath, reapplyNecessityAfterPossibility}
-use Rattle.definition.proofs.Lists.{true-false, and-left, and-right, or-cases, either, cond-both, Some, each-map, each-append, each-any, each-filter, each-of-map, some-each, some-pick, any-some, elem-each, below-each}
+use Rattle.definition.specs.Modality.{Necessity, Fork, Made, runsThrough, forkedOn, occurs, unvisited, giveOn, leavesOf, reapplyNecessity, isReapplied, reapplyIfOnPath, visiting, reapplyNecessityAfterPossibility, necessitiesAfterPossibility}
+use Rattle.definition.proofs.Lists.{true-false, and-left, and-right, or-cases, either, cond-both, Some, each-map, each-append, each-filter, filter-each, each-of-map, each-reverse, some-each, some-pick, any-some, elem-each, below-each}
 use Rattle.definition.proofs.Nodes.{blank, Label, label, Ext, ext-append}
 use Rattle.definition.proofs.Open.{Whole, path-in, path-elem, Chain, no-chain, middle-chain, Side, side-map}
 use Rattle.definition.proofs.Placing.{OkNode, Fine, fine-ext, amid-fine}
@@ -73,6 +73,14 @@ module _ (Q : Label → Type 0) where
       each-append (λ (m : Node). Q (label m)) (one .nodes) _
       (cond-both (λ (m : Made). Labelled (m .nodes)) (isReapplied t k n) (reapplyNecessity t g (some k) next n) (record { nodes = []; subtrees = [] }) (reapply-labels t g (some k) next n (h .0)) tt)
       (after-labels ns t g k (next + length (one .nodes)) (h .1))
+
+-- what visiting keeps, every stored necessity keeps at a fork
+pub after-each : (P : Necessity → Type 0) (t : List Node) (g : Graph) (k : Fork) → ((n : Necessity) → P n → P (visiting t g n)) → (ns : List Necessity) → Each P ns →
+    Each P (necessitiesAfterPossibility t g k ns)
+unfolding necessitiesAfterPossibility
+after-each P t g k f ns h =
+    let one : Necessity → Necessity = λ n. cond (isReapplied t k n) (visiting t g n) n in
+    each-reverse P (map one ns) (each-of-map P one ns (each-map (λ n q. cond-both P (isReapplied t k n) (visiting t g n) n (f n q) q) ns h))
 
 -- a number beyond the tree is the whole of its path
 beyond : (n : ℕ) (t : List Node) (x : ℕ) → length t ≤ x → Each (λ y. y ≡ x) (upward n t x)
@@ -141,8 +149,7 @@ module _ (Ok : ℕ → ℕ → Type 0) (t : List Node) (S : ℕ → Bool) (w : W
   leaves-on : (n : Necessity) → Known n → Each (On n) (leavesOf t n)
   unfolding leavesOf runsThrough
   leaves-on n known =
-      each-map {Q = On n} (λ leaf (a : Unit {0} × (runsThrough n (path t leaf) ≡ true)). one leaf (a .1)) (leavesOf t n)
-      (each-filter (λ _. Unit {0}) (λ leaf. runsThrough n (path t leaf)) (leaves t) (each-any (λ _. Unit {0}) (λ _. tt) (leaves t)))
+      each-map {Q = On n} one (leavesOf t n) (filter-each (λ leaf. runsThrough n (path t leaf)) (leaves t))
     where
       one : (leaf : ℕ) → runsThrough n (path t leaf) ≡ true → On n leaf
       one leaf q =

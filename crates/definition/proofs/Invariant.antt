@@ -12,7 +12,7 @@ use Rattle.definition.specs.Records.{Rec, nobody}
 use Rattle.definition.specs.Flags.{Flags}
 use Rattle.definition.specs.Models.{Model}
 use Rattle.definition.specs.Graph.{Graph, initializeGraphIfNeeded}
-use Rattle.definition.specs.Tree.{Node, nodeAt, leaves, path}
+use Rattle.definition.specs.Tree.{Node, Children, nodeAt, isLeaf, leaves, path}
 use Rattle.definition.specs.Subtree.{Targeted, appendLogicRuleResult}
 use Rattle.definition.specs.Modality.{Necessity}
 use Rattle.definition.specs.Queue.{Popped}
@@ -27,7 +27,7 @@ use Rattle.definition.proofs.Forms.{WellFormed}
 use Rattle.definition.proofs.Priest.{Holds}
 use Rattle.definition.proofs.Clash.{Sat, no-pair}
 use Rattle.definition.proofs.Edges.{Edges}
-use Rattle.definition.proofs.Open.{Whole, whole-like, path-in, leaf-some, Side}
+use Rattle.definition.proofs.Open.{Child, runs-like, path-in, leaf-some, Side}
 use Rattle.definition.proofs.Placing.{Fine, Put, put-append, all-put}
 use Rattle.definition.proofs.Given.{Occurs, Good}
 
@@ -114,8 +114,9 @@ inv-checked F M w s i =
       par = i .par;
       img = i .img;
       put = record {
-        whole = whole-like t t′ S (i .put .whole) (omega (arith, size)) (λ x h. mark-keeps (λ (n : Node). n .parent) (λ j n. refl) found t x)
-            (λ x h. mark-keeps (λ (n : Node). n .children) (λ j n. refl) found t x);
+        whole = λ e.
+            runs-like t t′ S e e (i .put .whole e) (omega (arith, size)) (λ x h. mark-keeps (λ (n : Node). n .parent) (λ j n. refl) found t x)
+            (λ x h d. subst (λ (c : Children). (isLeaf c ≡ true) ⊎ Child S c) (sym (mark-keeps (λ (n : Node). n .children) (λ j n. refl) found t x)) (i .put .whole e .down x h d));
         fine = λ x h.
             subst (λ (l : Label). Ok M (i .par) (i .img) (s .formulas) t′ S (l .world) (l .formula)) (sym (same x))
             (world-more M (i .par) (i .img) t t′ S S occ (nodeAt t x .world) (i .put .fine x h .0), i .put .fine x h .1);

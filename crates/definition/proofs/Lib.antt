@@ -15,3 +15,5 @@ pub mod Edges
 pub mod Invariant
 pub mod Step
 pub mod Sound
+pub mod TraysKept
+pub mod Bounds

@@ -2,7 +2,7 @@
 use mathlib.Core.Path.{_≡_, refl, sym, ap, _∙_, subst}
 use mathlib.Core.Bool.{Bool, true, false, not, _&&_, _||_, cond}
 use mathlib.Core.List.{List, [], _∷_, _++_, map, reverse, reverseAux}
-use mathlib.Core.Logic.{_⊎_, inl, inr, _≢_}
+use mathlib.Core.Logic.{_⊎_, inl, inr, ⊎-elim, _≢_}
 use Prim.Native.Nat.{ℕ, zero, suc, _<_, _≤_, _+_}
 use native.Mathlib.Omega.{arith}
 use lib.Dec.{eqb}
@@ -199,13 +199,12 @@ pub not-true-false : (b : Bool) → (b ≡ true → ⊥) → b ≡ false
 not-true-false true h = absurd (h refl)
 not-true-false false h = refl
 
+pub filter-each : {A : Type 0} (p : A → Bool) (xs : List A) → Each (λ x. p x ≡ true) (filter p xs)
+filter-each {A} p xs = each-map (λ x (h : Unit {0} × (p x ≡ true)). h .1) (filter p xs) (each-filter (λ x. Unit {0}) p xs (each-any (λ x. Unit {0}) (λ x. tt) xs))
+
 -- what holds of one number, and of every other one, holds of all
 pub one-or-other : (P : ℕ → Type 0) (y : ℕ) → P y → ((z : ℕ) → z ≢ y → P z) → (z : ℕ) → P z
-one-or-other P y f g z = go (either (eqb z y))
-  where
-    go : (eqb z y ≡ true) ⊎ (eqb z y ≡ false) → P z
-    go (inl q) = subst P (sym (eqb-true z y q)) f
-    go (inr q) = g z (eqb-false z y q)
+one-or-other P y f g z = ⊎-elim (λ q. subst P (sym (eqb-true z y q)) f) (λ q. g z (eqb-false z y q)) (either (eqb z y))
 
 -- a list that has an element
 abbrev pub Full : {A : Type 0} → List A → Type 0

@@ -1,8 +1,8 @@
 -- A set of nodes that holds the root, each node's parent, and a child of each node that has one: what links do to it.
 use mathlib.Core.Path.{_≡_, refl, sym, ap, _∙_}
-use mathlib.Core.Bool.{Bool, true, false, cond, _||_, or-true}
+use mathlib.Core.Bool.{Bool, true, false, _||_, or-true}
 use mathlib.Core.List.{List, [], _∷_, _++_, reverse}
-use mathlib.Core.Logic.{_⊎_, inl, inr, _≢_}
+use mathlib.Core.Logic.{_⊎_, inl, inr, ⊎-elim, ⊎-map, _≢_}
 use Prim.Native.Nat.{ℕ, zero, suc, _<_, _≤_}
 use native.Mathlib.Omega.{arith}
 use lib.Dec.{eqb}
@@ -10,11 +10,17 @@ use borrow.Author.Tests.{eq-eqb, ne-eqb}
 use lib.ListN.{length}
 use Rattle.definition.specs.Lists.{Each, elem}
 use Rattle.definition.specs.Records.{isNobody}
-use Rattle.definition.specs.Tree.{Node, Children, Place, Left, Middle, Right, childless, nodeAt, placedBelow, setChild, withChild, change, link, linkChain, isLeaf, only, leavesBelow, upward, leaves, path}
+use Rattle.definition.specs.Tree.{Node, Children, Place, Left, Middle, Right, nodeAt, placedBelow, setChild, withChild, change, link, linkChain, isLeaf, only, leavesBelow, upward, leaves, path}
 use Rattle.definition.specs.Subtree.{Subtree, withMiddle, flat, turned, appendSubtreeOnLeaf}
 use Rattle.definition.proofs.Lists.{true-false, cond-both, Some, each-map, each-both, each-left, each-right, some-append-left, some-append-right, elem-each, one-or-other, Full, full-reverse, each-reverse}
 use Rattle.definition.proofs.Nodes.{change-other, change-same, length-change, change-keeps, length-link, length-chain}
-use Rattle.definition.proofs.Issued.{Distinct, Apart, distinct-right, distinct-apart}
+use Rattle.definition.proofs.Issued.{Distinct, distinct-right, distinct-apart}
+
+abbrev pub In : (ℕ → Bool) → ℕ → Type 0
+In S x = S x ≡ true
+
+abbrev pub Out : (ℕ → Bool) → ℕ → Type 0
+Out S x = S x ≡ false
 
 -- a child in the set
 pub data Child (S : ℕ → Bool) (c : Children) : Type 0 where
@@ -40,98 +46,59 @@ pub record Runs (t : List Node) (S : ℕ → Bool) (e : ℕ) : Type 0 where
 abbrev pub Whole : List Node → (ℕ → Bool) → Type 0
 Whole t S = (e : ℕ) → Runs t S e
 
+child-some : (S : ℕ → Bool) (f : ℕ → List ℕ) (c : Children) → ((y : ℕ) → In S y → Some (In S) (f y)) → Child S c →
+    Some (In S) (f (c .left) ++ (f (c .middle) ++ f (c .right)))
+child-some S f c k (at-left q) = some-append-left (In S) (f (c .left)) _ (k (c .left) q)
+child-some S f c k (at-middle q) = some-append-right (In S) (f (c .left)) _ (some-append-left (In S) (f (c .middle)) _ (k (c .middle) q))
+child-some S f c k (at-right q) = some-append-right (In S) (f (c .left)) _ (some-append-right (In S) (f (c .middle)) _ (k (c .right) q))
+
 module _ (t : List Node) (S : ℕ → Bool) (w : Whole t S) where
-  up-each : (n x : ℕ) → (isNobody x ≡ true) ⊎ (S x ≡ true) → Each (λ y. S y ≡ true) (upward n t x)
+  up-each : (n x : ℕ) → (isNobody x ≡ true) ⊎ (S x ≡ true) → Each (In S) (upward n t x)
   unfolding upward
   up-each zero x h = tt
   up-each (suc n) x (inl q) = rw q tt
   up-each (suc n) x (inr h) = rw (w 0 .named x h) (h, up-each n (nodeAt t x .parent) (w 0 .up x h))
 
   -- the path of a leaf in the set lies in the set
-  pub path-in : (leaf : ℕ) → S leaf ≡ true → Each (λ y. S y ≡ true) (path t leaf)
+  pub path-in : (leaf : ℕ) → S leaf ≡ true → Each (In S) (path t leaf)
   unfolding path
   path-in leaf h = up-each (length t) leaf (inr h)
 
   pub path-elem : (x leaf : ℕ) → S leaf ≡ true → elem x (path t leaf) ≡ true → S x ≡ true
-  path-elem x leaf h k = elem-each (λ y. S y ≡ true) x (path t leaf) k (path-in leaf h)
+  path-elem x leaf h k = elem-each (In S) x (path t leaf) k (path-in leaf h)
 
-  below-some : (n x : ℕ) → S x ≡ true → Some (λ y. S y ≡ true) (leavesBelow n t x)
+  below-some : (n x : ℕ) → S x ≡ true → Some (In S) (leavesBelow n t x)
   unfolding leavesBelow only
   below-some zero x h = rw (w 0 .named x h) (inl h)
-  below-some (suc n) x h = go (w (suc x) .down x h (omega arith)) (below-some n)
-    where
-      P : ℕ → Type 0
-      P y = S y ≡ true
-
-      c : Children
-      c = nodeAt t x .children
-
-      l : List ℕ
-      l = leavesBelow n t (c .left)
-
-      m : List ℕ
-      m = leavesBelow n t (c .middle)
-
-      r : List ℕ
-      r = leavesBelow n t (c .right)
-
-      further : Child S c → ((y : ℕ) → P y → Some P (leavesBelow n t y)) → Some P (l ++ (m ++ r))
-      further (at-left q) k = some-append-left P l (m ++ r) (k (c .left) q)
-      further (at-middle q) k = some-append-right P l (m ++ r) (some-append-left P m r (k (c .middle) q))
-      further (at-right q) k = some-append-right P l (m ++ r) (some-append-right P m r (k (c .right) q))
-
-      here : Some P (only x)
-      here = rw (w 0 .named x h) (inl h)
-
-      go : Down t S x → ((y : ℕ) → P y → Some P (leavesBelow n t y)) → Some P (cond (isLeaf c) (only x) (l ++ (m ++ r)))
-      go (inl q) k = rw q here
-      go (inr q) k = cond-both (Some P) (isLeaf c) (only x) (l ++ (m ++ r)) here (further q k)
+  below-some (suc n) x h =
+      let c = nodeAt t x .children in
+      let here : Some (In S) (only x) = rw (w 0 .named x h) (inl h) in
+      ⊎-elim (λ q. rw q here) (λ q. cond-both (Some (In S)) (isLeaf c) (only x) _ here (child-some S (leavesBelow n t) c (below-some n) q)) (w (suc x) .down x h (omega arith))
 
   -- a leaf in the set
-  pub leaf-some : Some (λ y. S y ≡ true) (leaves t)
+  pub leaf-some : Some (In S) (leaves t)
   unfolding leaves
   leaf-some = below-some (length t) 0 (w 0 .root)
 
--- a tree with more nodes, and the same links of those that were there
-pub whole-like : (t t′ : List Node) (S : ℕ → Bool) → Whole t S → length t ≤ length t′ →
-    ((x : ℕ) → x < length t → nodeAt t′ x .parent ≡ nodeAt t x .parent) → ((x : ℕ) → x < length t → nodeAt t′ x .children ≡ nodeAt t x .children) →
-    Whole t′ S
-whole-like t t′ S w l p c e =
-    record {
-      root = w e .root;
-      known = λ x h. omega (arith, w e .known x h);
-      named = w e .named;
-      up = λ x h. rw (p x (w e .known x h)) (w e .up x h);
-      down = λ x h d. rw (c x (w e .known x h)) (w e .down x h d);
-    }
+-- a tree that has the set's nodes with their parents, and children as they should be
+pub runs-like : (t t′ : List Node) (S : ℕ → Bool) (e e′ : ℕ) → Runs t S e → length t ≤ length t′ → ((x : ℕ) → S x ≡ true → nodeAt t′ x .parent ≡ nodeAt t x .parent) →
+    ((x : ℕ) → S x ≡ true → x ≢ e′ → Down t′ S x) → Runs t′ S e′
+runs-like t t′ S e e′ r l p d =
+    record { root = r .root; known = λ x h. omega (arith, r .known x h); named = r .named; up = λ x h. rw (p x h) (r .up x h); down = d }
 
+-- a link lets x enter the tree, and then gives y a child
 module _ (t : List Node) (y : ℕ) (p : Place) (x : ℕ) where
-  link-parent : (z : ℕ) → z ≢ x → nodeAt (link t y p x) z .parent ≡ nodeAt t z .parent
+  link-parent : (z : ℕ) → nodeAt (link t y p x) z .parent ≡ nodeAt (change t x (placedBelow y p)) z .parent
   unfolding link
-  link-parent z h =
-      change-keeps (λ (n : Node). n .parent) (change t x (placedBelow y p)) y (withChild p x) (λ n. refl) z
-      ∙ ap (λ (n : Node). n .parent) (change-other t x z (placedBelow y p) h)
+  link-parent z = change-keeps (λ (n : Node). n .parent) (change t x (placedBelow y p)) y (withChild p x) (λ n. refl) z
 
-  link-below : x < length t → nodeAt (link t y p x) x .parent ≡ y
+  link-other : (z : ℕ) → z ≢ y → nodeAt (link t y p x) z ≡ nodeAt (change t x (placedBelow y p)) z
   unfolding link
-  link-below h =
-      change-keeps (λ (n : Node). n .parent) (change t x (placedBelow y p)) y (withChild p x) (λ n. refl) x
-      ∙ ap (λ (n : Node). n .parent) (change-same t x (placedBelow y p) h)
-
-  link-children : (z : ℕ) → z ≢ y → z ≢ x → nodeAt (link t y p x) z .children ≡ nodeAt t z .children
-  unfolding link
-  link-children z h k =
-      ap (λ (n : Node). n .children) (change-other (change t x (placedBelow y p)) y z (withChild p x) h ∙ change-other t x z (placedBelow y p) k)
-
-  link-childless : x ≢ y → x < length t → nodeAt (link t y p x) x .children ≡ childless
-  unfolding link
-  link-childless h k =
-      ap (λ (n : Node). n .children) (change-other (change t x (placedBelow y p)) y x (withChild p x) h ∙ change-same t x (placedBelow y p) k)
+  link-other z h = change-other (change t x (placedBelow y p)) y z (withChild p x) h
 
   link-at : y < length t → nodeAt (link t y p x) y .children ≡ setChild p x (nodeAt (change t x (placedBelow y p)) y .children)
   unfolding link
-  link-at h =
-      ap (λ (n : Node). n .children) (change-same (change t x (placedBelow y p)) y (withChild p x) (omega (arith, length-change t x (placedBelow y p))))
+  link-at h = ap (λ (n : Node). n .children) (change-same (change t x (placedBelow y p)) y (withChild p x) (omega (arith, length-change t x (placedBelow y p))))
 
 -- a place where a child stands, and the child there
 pub record Slot (p : Place) : Type 0 where
@@ -181,57 +148,40 @@ pub adds-each : (P : ℕ → Type 0) (S : ℕ → Bool) (cs : List ℕ) → ((x 
 adds-each P S [] f h = f
 adds-each P S (c ∷ cs) f h = adds-each P (plus S c) cs (plus-each P S c (h .0) (λ x d. f x)) (h .1)
 
--- a node that may be taken into the set
-abbrev pub New : List Node → ℕ → Type 0
-New t x = (x < length t) × (isNobody x ≡ false)
+child-plus : (S : ℕ → Bool) (x : ℕ) (c : Children) → Child S c → Child (plus S x) c
+child-plus S x c (at-left q) = at-left (plus-old S x (c .left) q)
+child-plus S x c (at-middle q) = at-middle (plus-old S x (c .middle) q)
+child-plus S x c (at-right q) = at-right (plus-old S x (c .right) q)
 
-new-same : (t t′ : List Node) (cs : List ℕ) → length t′ ≡ length t → Each (New t) cs → Each (New t′) cs
-new-same t t′ cs e h = each-map (λ x (k : New t x). (omega (arith, k .0, e), k .1)) cs h
+-- one of n nodes that may be taken into the set
+abbrev pub New : ℕ → ℕ → Type 0
+New n x = (x < n) × (isNobody x ≡ false)
 
 -- a link to a node of the set takes the linked node into the set
-pub link-in : (S : ℕ → Bool) (t : List Node) (y : ℕ) (p : Place) (x : ℕ) → Slot p → Runs t S y → S y ≡ true → New t x → Whole (link t y p x) (plus S x)
+pub link-in : (S : ℕ → Bool) (t : List Node) (y : ℕ) (p : Place) (x : ℕ) → Slot p → Runs t S y → S y ≡ true → New (length t) x → Whole (link t y p x) (plus S x)
 unfolding isLeaf
 link-in S t y p x slot r hy hx e =
+    let S′ = plus S x in
+    let t′ = link t y p x in
+    let f = placedBelow y p in
+    let n = length-link t y p x in
     record {
       root = plus-old S x 0 (r .root);
-      known = plus-each (λ z. z < length t′) S x (omega (arith, hx .0, length-link t y p x)) (λ z d h. omega (arith, r .known z h, length-link t y p x));
+      known = plus-each (λ z. z < length t′) S x (omega (arith, hx .0)) (λ z d h. omega (arith, r .known z h));
       named = plus-each (λ z. isNobody z ≡ false) S x (hx .1) (λ z d. r .named z);
-      up = plus-each (Up t′ S′) S x (inr (rw (link-below t y p x (hx .0)) (plus-old S x y hy))) (λ z d h. rw (link-parent t y p x z d) (more-up (nodeAt t z .parent) (r .up z h)));
-      down = λ z h d. one-or-other (λ v. S′ v ≡ true → Down t′ S′ v) y at-y (λ v k g. plus-each (λ u. u ≢ y → Down t′ S′ u) S x at-x at-other v g k) z h;
+      up = plus-each (Up t′ S′) S x (inr (rw (link-parent t y p x x, change-same t x f (hx .0)) (plus-old S x y hy)))
+          (λ z d h. rw (link-parent t y p x z, change-other t x z f d) (⊎-map (λ q. q) (plus-old S x (nodeAt t z .parent)) (r .up z h)));
+      down = λ z h d. one-or-other (λ v. S′ v ≡ true → Down t′ S′ v) y (λ k. inr (rw (link-at t y p x (r .known y hy)) (slot .counts S′ _ (rw (slot .here x _) (plus-new S x)))))
+          (λ v k g. plus-each (λ u. u ≢ y → Down t′ S′ u) S x (λ a. inl (rw (link-other t y p x x a, change-same t x f (hx .0))))
+          (λ u a b c. rw (link-other t y p x u c, change-other t x u f a) (⊎-map (λ q. q) (child-plus S x (nodeAt t u .children)) (r .down u b c))) v g k) z h;
     }
-  where
-    S′ : ℕ → Bool
-    S′ = plus S x
 
-    t′ : List Node
-    t′ = link t y p x
-
-    more-up : (v : ℕ) → (isNobody v ≡ true) ⊎ (S v ≡ true) → (isNobody v ≡ true) ⊎ (S′ v ≡ true)
-    more-up v (inl q) = inl q
-    more-up v (inr q) = inr (plus-old S x v q)
-
-    more-down : (c : Children) → (isLeaf c ≡ true) ⊎ Child S c → (isLeaf c ≡ true) ⊎ Child S′ c
-    more-down c (inl q) = inl q
-    more-down c (inr (at-left q)) = inr (at-left (plus-old S x (c .left) q))
-    more-down c (inr (at-middle q)) = inr (at-middle (plus-old S x (c .middle) q))
-    more-down c (inr (at-right q)) = inr (at-right (plus-old S x (c .right) q))
-
-    at-y : S′ y ≡ true → Down t′ S′ y
-    at-y h = inr (rw (link-at t y p x (r .known y hy)) (slot .counts S′ _ (rw (slot .here x _) (plus-new S x))))
-
-    at-x : x ≢ y → Down t′ S′ x
-    at-x k = inl (rw (link-childless t y p x k (hx .0)))
-
-    at-other : (z : ℕ) → z ≢ x → S z ≡ true → z ≢ y → Down t′ S′ z
-    at-other z d h k = rw (link-children t y p x z k d) (more-down (nodeAt t z .children) (r .down z h k))
-
-pub chain-in : (S : ℕ → Bool) (t : List Node) (y : ℕ) (p : Place) (c : ℕ) (cs : List ℕ) → Slot p → Runs t S y → S y ≡ true → Each (New t) (c ∷ cs) →
+pub chain-in : (S : ℕ → Bool) (t : List Node) (y : ℕ) (p : Place) (c : ℕ) (cs : List ℕ) → Slot p → Runs t S y → S y ≡ true → Each (New (length t)) (c ∷ cs) →
     Whole (linkChain t y p (c ∷ cs)) (adds S (c ∷ cs))
 unfolding linkChain
 chain-in S t y p c [] slot r hy h = link-in S t y p c slot r hy (h .0)
 chain-in S t y p c (d ∷ ds) slot r hy h =
-    chain-in (plus S c) (link t y p c) c Middle d ds slot-middle (link-in S t y p c slot r hy (h .0) c) (plus-new S c)
-    (new-same t (link t y p c) (d ∷ ds) (length-link t y p c) (h .1))
+    chain-in (plus S c) (link t y p c) c Middle d ds slot-middle (link-in S t y p c slot r hy (h .0) c) (plus-new S c) (rw (length-link t y p c) (h .1))
 
 apart : (S : ℕ → Bool) (x z : ℕ) → S z ≡ true → S x ≡ false → z ≢ x
 apart S x z h k e = true-false (sym h ∙ ap S e ∙ k)
@@ -240,20 +190,11 @@ module _ (S : ℕ → Bool) where
   -- a link of a node that is not in the set, below the excepted node or one that is not in the set
   pub link-out : (t : List Node) (y : ℕ) (p : Place) (x e : ℕ) → Runs t S e → (y ≡ e) ⊎ (S y ≡ false) → S x ≡ false → Runs (link t y p x) S e
   link-out t y p x e r hy hx =
-      record {
-        root = r .root;
-        known = λ z h. omega (arith, r .known z h, length-link t y p x);
-        named = r .named;
-        up = λ z h. rw (link-parent t y p x z (apart S x z h hx)) (r .up z h);
-        down = λ z h d. rw (link-children t y p x z (above hy z h d) (apart S x z h hx)) (r .down z h d);
-      }
-    where
-      above : (y ≡ e) ⊎ (S y ≡ false) → (z : ℕ) → S z ≡ true → z ≢ e → z ≢ y
-      above (inl q) z h d k = d (k ∙ q)
-      above (inr q) z h d k = apart S y z h q k
+      let above : (z : ℕ) → S z ≡ true → z ≢ e → z ≢ y = λ z h d k. ⊎-elim (λ q. d (k ∙ q)) (λ q. apart S y z h q k) hy in
+      runs-like t (link t y p x) S e e r (omega (arith, length-link t y p x)) (λ z h. rw (link-parent t y p x z, change-other t x z (placedBelow y p) (apart S x z h hx)))
+      (λ z h d. rw (link-other t y p x z (above z h d), change-other t x z (placedBelow y p) (apart S x z h hx)) (r .down z h d))
 
-  pub chain-out : (t : List Node) (y : ℕ) (p : Place) (e : ℕ) (cs : List ℕ) → Runs t S e → (y ≡ e) ⊎ (S y ≡ false) → Each (λ x. S x ≡ false) cs →
-      Runs (linkChain t y p cs) S e
+  pub chain-out : (t : List Node) (y : ℕ) (p : Place) (e : ℕ) (cs : List ℕ) → Runs t S e → (y ≡ e) ⊎ (S y ≡ false) → Each (Out S) cs → Runs (linkChain t y p cs) S e
   unfolding linkChain
   chain-out t y p e [] r hy h = r
   chain-out t y p e (c ∷ cs) r hy h = chain-out (link t y p c) c Middle e cs (link-out t y p c e r hy (h .0)) (inr (h .0)) (h .1)
@@ -261,47 +202,29 @@ module _ (S : ℕ → Bool) where
   -- with a child in the set after all, no node lacks one
   pub close : (t : List Node) (e : ℕ) → Runs t S e → Child S (nodeAt t e .children) → Whole t S
   close t e r c e′ =
-      record {
-        root = r .root;
-        known = r .known;
-        named = r .named;
-        up = r .up;
-        down = λ z h d. one-or-other (λ v. S v ≡ true → Down t S v) e (λ k. inr c) (λ v k g. r .down v g k) z h;
-      }
+      runs-like t t S e e′ r (omega arith) (λ x h. refl) (λ z h d. one-or-other (λ v. S v ≡ true → Down t S v) e (λ k. inr c) (λ v k g. r .down v g k) z h)
 
 -- a chain leaves the children of a node that is neither in it nor above it
 chain-children : (t : List Node) (y : ℕ) (p : Place) (z : ℕ) (cs : List ℕ) → z ≢ y → Each (λ x. z ≢ x) cs → nodeAt (linkChain t y p cs) z .children ≡ nodeAt t z .children
 unfolding linkChain
 chain-children t y p z [] d h = refl
-chain-children t y p z (c ∷ cs) d h = chain-children (link t y p c) c Middle z cs (h .0) (h .1) ∙ link-children t y p c z d (h .0)
+chain-children t y p z (c ∷ cs) d h =
+    chain-children (link t y p c) c Middle z cs (h .0) (h .1) ∙ ap (λ (n : Node). n .children) (link-other t y p c z d ∙ change-other t c z (placedBelow y p) (h .0))
 
-module _ (S : ℕ → Bool) (y : ℕ) (hy : S y ≡ true) {p : Place} (slot : Slot p) where
-  -- the child of y in a slot is in the set
-  abbrev Held : List Node → Type 0
-  Held t = Whole t S × (S (slot .child (nodeAt t y .children)) ≡ true)
-
-  -- a chain out of the set leaves the child in another slot
-  beside : (t : List Node) (q : Place) (cs : List ℕ) → ((x : ℕ) (c : Children) → slot .child (setChild q x c) ≡ slot .child c) →
-      Held t → Each (λ x. S x ≡ false) cs → Held (linkChain t y q cs)
-  unfolding linkChain
-  beside t q [] k w o = w
-  beside t q (c ∷ cs) k w o =
-      let d = each-map {Q = λ x. y ≢ x} (λ x. apart S x y hy) (c ∷ cs) o in
-      let e = ap (λ (a : Children). S (slot .child a)) (chain-children (link t y q c) c Middle y cs (d .0) (d .1) ∙ link-at t y q c (w .0 0 .known y hy))
-      ∙ ap S (k c _ ∙ ap (λ (n : Node). slot .child (n .children)) (change-other t c y (placedBelow y q) (d .0)))
-      ∙ w .1 in
-      (close S _ y (chain-out S t y q y (c ∷ cs) (w .0 y) (inl refl) o) (slot .counts S _ e), e)
-
--- a chain taken into the set holds its first node at its slot
-chain-held : (S : ℕ → Bool) (t : List Node) (y : ℕ) {p : Place} (slot : Slot p) (c : ℕ) (cs : List ℕ) → Runs t S y → (hy : S y ≡ true) → Each (New t) (c ∷ cs) →
-    Each (λ x. S x ≡ false) (c ∷ cs) → Held (adds S (c ∷ cs)) y (adds-old S (c ∷ cs) y hy) slot (linkChain t y p (c ∷ cs))
+-- the node above a chain out of the set has its first node for a child
+chain-at : (S : ℕ → Bool) (t : List Node) (y : ℕ) (p : Place) (c : ℕ) (cs : List ℕ) → y < length t → S y ≡ true → Each (Out S) (c ∷ cs) →
+    nodeAt (linkChain t y p (c ∷ cs)) y .children ≡ setChild p c (nodeAt t y .children)
 unfolding linkChain
-chain-held S t y {p} slot c cs r hy n o =
-    let d = each-map {Q = λ x. y ≢ x} (λ x. apart S x y hy) (c ∷ cs) o in (
-      chain-in S t y p c cs slot r hy n,
-      ap (λ (a : Children). adds S (c ∷ cs) (slot .child a)) (chain-children (link t y p c) c Middle y cs (d .0) (d .1) ∙ link-at t y p c (r .known y hy))
-          ∙ ap (adds S (c ∷ cs)) (slot .here c _) ∙ adds-old (plus S c) cs c (plus-new S c),
-    )
+chain-at S t y p c cs h hy o =
+    let d = each-map {Q = λ x. y ≢ x} (λ x. apart S x y hy) (c ∷ cs) o in
+    chain-children (link t y p c) c Middle y cs (d .0) (d .1) ∙ link-at t y p c h ∙ ap (λ (n : Node). setChild p c (n .children)) (change-other t c y (placedBelow y p) (d .0))
+
+-- and keeps a child g that stands at another place
+stays : (S : ℕ → Bool) (t : List Node) (y : ℕ) (p : Place) (cs : List ℕ) (g : Children → ℕ) → ((x : ℕ) (c : Children) → g (setChild p x c) ≡ g c) →
+    y < length t → S y ≡ true → Each (Out S) cs → g (nodeAt (linkChain t y p cs) y .children) ≡ g (nodeAt t y .children)
+unfolding linkChain
+stays S t y p [] g k h hy o = refl
+stays S t y p (c ∷ cs) g k h hy o = ap g (chain-at S t y p c cs h hy o) ∙ k c (nodeAt t y .children)
 
 -- the chain that a set takes of a subtree: one that has a node, or none if the subtree has none
 pub data Chain : Subtree → List ℕ → Type 0 where
@@ -323,40 +246,45 @@ chain-each P s cs (left-chain c ds ms rs) h = parts P s h .0
 chain-each P s cs (middle-chain ls c ds rs) h = parts P s h .1
 chain-each P s cs (right-chain ls ms c ds) h = parts P s h .2
 
-adds-apart : (S : ℕ → Bool) (cs xs : List ℕ) → Each (λ x. S x ≡ false) xs → Apart cs xs → Each (λ x. adds S cs x ≡ false) xs
-adds-apart S cs xs h k = each-both (λ x a b. adds-other S cs x b ∙ a) xs h k
+-- a chain taken into the set, and two further ones that are not in it, at other places
+taken : (S : ℕ → Bool) (t : List Node) (y : ℕ) {p : Place} (slot : Slot p) (c : ℕ) (cs : List ℕ) (q₁ : Place) (m : List ℕ) (q₂ : Place) (r : List ℕ) →
+    ((x : ℕ) (a : Children) → slot .child (setChild q₁ x a) ≡ slot .child a) → ((x : ℕ) (a : Children) → slot .child (setChild q₂ x a) ≡ slot .child a) →
+    Runs t S y → S y ≡ true → Each (New (length t)) (c ∷ cs) → Each (Out S) (c ∷ cs) → Each (Out (adds S (c ∷ cs))) m → Each (Out (adds S (c ∷ cs))) r →
+    Whole (linkChain (linkChain (linkChain t y p (c ∷ cs)) y q₁ m) y q₂ r) (adds S (c ∷ cs))
+taken S t y {p} slot c cs q₁ m q₂ r k₁ k₂ w hy n o o₁ o₂ =
+    let S₁ = adds S (c ∷ cs) in
+    let hy₁ = adds-old S (c ∷ cs) y hy in
+    let u = linkChain t y p (c ∷ cs) in
+    let one = chain-in S t y p c cs slot w hy n y in
+    let two = chain-out S₁ u y q₁ y m one (inl refl) o₁ in
+    let child = stays S₁ (linkChain u y q₁ m) y q₂ r (slot .child) k₂ (two .known y hy₁) hy₁ o₂ ∙ stays S₁ u y q₁ m (slot .child) k₁ (one .known y hy₁) hy₁ o₁ in
+    close S₁ _ y (chain-out S₁ _ y q₂ y r two (inl refl) o₂)
+    (slot .counts S₁ _ (rw (child, chain-at S t y p c cs (w .known y hy) hy o, slot .here c (nodeAt t y .children)) (adds-old (plus S c) cs c (plus-new S c))))
 
 -- a subtree below a node of the set: the chain is taken into the set
-pub hang-in : (S : ℕ → Bool) (t : List Node) (y : ℕ) (s : Subtree) (cs : List ℕ) → Chain s cs → Whole t S → S y ≡ true → Each (New t) (flat s) →
-    Each (λ x. S x ≡ false) (flat s) → Distinct (flat s) → Whole (appendSubtreeOnLeaf t y s) (adds S cs)
+pub hang-in : (S : ℕ → Bool) (t : List Node) (y : ℕ) (s : Subtree) (cs : List ℕ) → Chain s cs → Whole t S → S y ≡ true → Each (New (length t)) (flat s) →
+    Each (Out S) (flat s) → Distinct (flat s) → Whole (appendSubtreeOnLeaf t y s) (adds S cs)
 unfolding appendSubtreeOnLeaf linkChain flat setChild slot-left slot-middle
 hang-in S t y s cs no-chain w hy n o d = w
 hang-in S t y s cs (left-chain c ds m r) w hy n o d =
-    let S₁ = adds S cs in
-    let hy₁ = adds-old S cs y hy in
-    let off = parts (λ x. S x ≡ false) s o in
-    let far = distinct-apart cs (m ++ r) d in
-    let one = chain-held S t y slot-left c ds (w y) hy (parts (New t) s n .0) (off .0) in
-    let two = beside S₁ y hy₁ slot-left (linkChain t y Left cs) Middle m (λ x c. refl) one (adds-apart S cs m (off .1) (each-left (λ x. Each (λ v. x ≢ v) cs) m r far)) in
-    beside S₁ y hy₁ slot-left _ Right r (λ x c. refl) two (adds-apart S cs r (off .2) (each-right (λ x. Each (λ v. x ≢ v) cs) m r far)) .0
+    let off : Each (Out (adds S cs)) (m ++ r) = each-both (λ x a b. adds-other S cs x b ∙ a) (m ++ r) (each-right (Out S) cs (m ++ r) o) (distinct-apart cs (m ++ r) d) in
+    taken S t y slot-left c ds Middle m Right r (λ x a. refl) (λ x a. refl) (w y) hy (parts (New (length t)) s n .0) (parts (Out S) s o .0)
+    (each-left (Out (adds S cs)) m r off) (each-right (Out (adds S cs)) m r off)
 hang-in S t y s cs (middle-chain l c ds r) w hy n o d =
-    let t₁ = linkChain t y Left l in
-    let off = parts (λ x. S x ≡ false) s o in
-    let one =
-    chain-held S t₁ y slot-middle c ds (chain-out S t y Left y l (w y) (inl refl) (off .0)) hy (new-same t t₁ cs (length-chain t y Left l) (parts (New t) s n .1)) (off .1) in
-    beside (adds S cs) y (adds-old S cs y hy) slot-middle (linkChain t₁ y Middle cs) Right r (λ x c. refl) one (adds-apart S cs r (off .2) (distinct-apart cs r (distinct-right l (cs ++ r) d))) .0
+    let off = parts (Out S) s o in
+    taken S (linkChain t y Left l) y slot-middle c ds Right r Right [] (λ x a. refl) (λ x a. refl) (chain-out S t y Left y l (w y) (inl refl) (off .0)) hy
+    (rw (length-chain t y Left l) (parts (New (length t)) s n .1)) (off .1) (each-both (λ x a b. adds-other S cs x b ∙ a) r (off .2) (distinct-apart cs r (distinct-right l (cs ++ r) d))) tt
 hang-in S t y s cs (right-chain l m c ds) w hy n o d =
-    let t₁ = linkChain t y Left l in
-    let t₂ = linkChain t₁ y Middle m in
-    let off = parts (λ x. S x ≡ false) s o in
-    chain-in S t₂ y Right c ds slot-right (chain-out S t₁ y Middle y m (chain-out S t y Left y l (w y) (inl refl) (off .0)) (inl refl) (off .1)) hy
-    (new-same t t₂ cs (length-chain t₁ y Middle m ∙ length-chain t y Left l) (parts (New t) s n .2))
+    let off = parts (Out S) s o in
+    let u = linkChain t y Left l in
+    let one = chain-out S u y Middle y m (chain-out S t y Left y l (w y) (inl refl) (off .0)) (inl refl) (off .1) in
+    chain-in S _ y Right c ds slot-right one hy (rw (length-chain u y Middle m, length-chain t y Left l) (parts (New (length t)) s n .2))
 
 -- a subtree out of the set, below a node that is not in it
-pub hang-out : (S : ℕ → Bool) (t : List Node) (y : ℕ) (s : Subtree) → Whole t S → S y ≡ false → Each (λ x. S x ≡ false) (flat s) → Whole (appendSubtreeOnLeaf t y s) S
+pub hang-out : (S : ℕ → Bool) (t : List Node) (y : ℕ) (s : Subtree) → Whole t S → S y ≡ false → Each (Out S) (flat s) → Whole (appendSubtreeOnLeaf t y s) S
 unfolding appendSubtreeOnLeaf
 hang-out S t y s w hy o e =
-    let off = parts (λ x. S x ≡ false) s o in
+    let off = parts (Out S) s o in
     chain-out S _ y Right e (s .right) (chain-out S _ y Middle e (s .middle) (chain-out S t y Left e (s .left) (w e) (inr hy) (off .0)) (inr hy) (off .1)) (inr hy) (off .2)
 
 -- a chain of the subtree, taken as Chain says, that has P throughout

@@ -61,7 +61,7 @@ module _ (F : Flags) (M : Model) (has : Has F M) (w : ℕ) (begun′ : F .symmet
       go false l f = f (step-inv s k i (omega (arith, l, steps-grow test F n (step F s)))) l
 
 -- the numbers of marked records are numbers of records
-marks-known : (rs : List Rec) (i : ℕ) → Each (λ f. f < i + length rs) (marksFrom i rs)
+pub marks-known : (rs : List Rec) (i : ℕ) → Each (λ f. f < i + length rs) (marksFrom i rs)
 unfolding marksFrom
 marks-known [] i = tt
 marks-known (r ∷ rs) i =
@@ -69,7 +69,16 @@ marks-known (r ∷ rs) i =
     each-map (λ f (a : f < suc i + length rs). omega arith) (marksFrom (suc i) rs) (marks-known rs (suc i)) in
     cond-both (Each (λ f. f < i + suc (length rs))) (eqb (r .mark) 1) (i ∷ marksFrom (suc i) rs) (marksFrom (suc i) rs) (omega arith, rest) rest
 
--- the branch: every node is at world 0, and its formula is marked
+-- the branch is linked, and its labels stay
+pub rooted-every : (P : Label → Type 0) (ns : List Node) → Each (λ (n : Node). P (label n)) ns → Every P (rooted ns)
+unfolding rooted
+rooted-every P [] h x k = absurd (omega arith)
+rooted-every P (n ∷ ns) h x k =
+    let t = placedBelow nobody Root n ∷ ns in
+    let cs = upFrom (length ns) 1 in
+    subst P (sym (chain-keeps label label-stable t 0 Middle cs x)) (each-every P t h x (omega (arith, k, length-rooted (n ∷ ns))))
+
+-- every node of it is at world 0, and its formula is marked
 module _ (M : Model) (w : ℕ) (rs : List Rec) (holds : Each (λ f. truth M (formAt rs f) w ≡ true) (marks rs)) where
   abbrev First : Label → Type 0
   First l = (l .world ≡ 0) × Sat M rs w (l .formula)
@@ -79,14 +88,6 @@ module _ (M : Model) (w : ℕ) (rs : List Rec) (holds : Each (λ f. truth M (for
   branch-first =
       each-of-map (λ (n : Node). First (label n)) (λ f. newNode nobody f 0) (marks rs)
       (each-both (λ f (a : f < 0 + length rs) (b : truth M (formAt rs f) w ≡ true). (refl, inr (record { known = omega (arith, a); holds = b }))) (marks rs) (marks-known rs 0) holds)
-
-  rooted-first : (ns : List Node) → Each (λ (n : Node). First (label n)) ns → Every First (rooted ns)
-  unfolding rooted
-  rooted-first [] h x k = absurd (omega arith)
-  rooted-first (n ∷ ns) h x k =
-      let t = placedBelow nobody Root n ∷ ns in
-      let cs = upFrom (length ns) 1 in
-      subst First (sym (chain-keeps label label-stable t 0 Middle cs x)) (each-every First t h x (omega (arith, k, length-rooted (n ∷ ns))))
 
 alone : ℕ → Bool
 alone x = eqb x 0
@@ -108,7 +109,7 @@ rooted-whole n ns small = go (length ns) refl
           down = λ x h d. inl (subst (λ (y : ℕ). isLeaf (nodeAt t y .children) ≡ true) (sym (eqb-true x 0 h)) refl);
         }
 
-    new : (m : ℕ) → length ns ≡ m → Each (New t) (upFrom m 1)
+    new : (m : ℕ) → length ns ≡ m → Each (New (length t)) (upFrom m 1)
     new m e = each-map (λ x (q : (1 ≤ x) × (x < 1 + m)). (omega (arith, q .1, e), ne-eqb x nobody (omega (arith, q .1, e, small)))) (upFrom m 1) (upFrom-each m 1)
 
     go : (m : ℕ) → length ns ≡ m → Whole (linkChain t 0 Middle (upFrom m 1)) (adds alone (upFrom m 1))
@@ -125,7 +126,7 @@ begun-inv F M w inside rs wf some-marked holds small = go (branchNodes rs) refl 
     full-branch (f ∷ fs) e = refl
 
     first : Every (First M w rs holds) (rooted (branchNodes rs))
-    first = rooted-first M w rs holds (branchNodes rs) (branch-first M w rs holds)
+    first = rooted-every (First M w rs holds) (branchNodes rs) (branch-first M w rs holds)
 
     go : (ns : List Node) → branchNodes rs ≡ ns → empty (branchNodes rs) ≡ false → Inv F M w (begun rs)
     go [] e q = true-false (sym (ap (empty {A = Node}) e) ∙ q)

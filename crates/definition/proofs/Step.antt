@@ -17,9 +17,9 @@ use Rattle.definition.specs.Graph.{Graph, edge, initializeGraphIfNeeded,
 use Rattle.definition.specs.Tree.{Node, newNode, nodeAt, leaves, path}
 use Rattle.definition.specs.Rules.{Rule, nothing, down, split, asPossible, asNecessary, expansion}
 use Rattle.definition.specs.Subtree.{Subtree, withMiddle, withLeftRight, flat, turned, numbered}
-use Rattle.definition.specs.Modality.{Necessity, Fork, unvisited, reapplyNecessity, visiting, isReapplied, reapplyNecessityAfterPossibility, necessitiesAfterPossibility}
+use Rattle.definition.specs.Modality.{Necessity, Fork, unvisited, reapplyNecessity, visiting, reapplyNecessityAfterPossibility}
 use Rattle.definition.specs.Run.{State, LogicRuleResult, applyHere, applyPossibility, applyNecessity, applyRule, apply}
-use Rattle.definition.proofs.Lists.{true-false, either, cond-both, Full, Some, each-map, each-any, each-filter, each-of-map, each-reverse}
+use Rattle.definition.proofs.Lists.{true-false, either, Some, each-map, each-any, filter-each, each-of-map}
 use Rattle.definition.proofs.Nodes.{blank, Label, label}
 use Rattle.definition.proofs.Every.{Every, every-append}
 use Rattle.definition.proofs.Issued.{each-turned}
@@ -29,7 +29,7 @@ use Rattle.definition.proofs.Clash.{Sat}
 use Rattle.definition.proofs.Edges.{Edges, init-edges, init-worlds, with-parent, with-parent-old, with-parent-new, fork-edges, fork-worlds, rel-sound}
 use Rattle.definition.proofs.Open.{path-elem, Side, side-map, side-turned, left-full, right-full}
 use Rattle.definition.proofs.Placing.{OkNode, Fine, amid-fine, made-side}
-use Rattle.definition.proofs.Given.{Occurs, Occurring, Good, Gives, Gifts, middle-side, leaf-known, unvisited-each, reapply-good, after-good, reapply-labels, after-labels}
+use Rattle.definition.proofs.Given.{Occurs, Occurring, Good, Gives, Gifts, middle-side, leaf-known, unvisited-each, reapply-good, after-good, reapply-labels, after-labels, after-each}
 use Rattle.definition.proofs.Invariant.{World, Ok, Stands, Low, Inv, Faithful}
 
 -- a turned subtree is numbered alike
@@ -170,8 +170,8 @@ module _ (F : Flags) (M : Model) (has : Has F M) (w : ℕ) (begun : F .symmetric
 
       leaves-through : Each Leaf (n .leaves)
       leaves-through =
-          each-map (λ y (a : Unit {0} × (elem x (path t y) ≡ true)). (leaf-known t x y hx (a .1), λ h. path-elem t S (i .put .whole) x y h (a .1))) (n .leaves)
-          (each-filter (λ _. Unit {0}) (λ leaf. elem x (path t leaf)) (leaves t) (each-any (λ _. Unit {0}) (λ _. tt) (leaves t)))
+          each-map (λ y (a : elem x (path t y) ≡ true). (leaf-known t x y hx a, λ h. path-elem t S (i .put .whole) x y h a)) (n .leaves)
+          (filter-each (λ leaf. elem x (path t leaf)) (leaves t))
 
       hit-x : (ls : List ℕ) → Each Leaf ls → Some (λ y. S y ≡ true) ls → S x ≡ true
       hit-x [] h q = absurd q
@@ -277,7 +277,7 @@ module _ (F : Flags) (M : Model) (has : Has F M) (w : ℕ) (begun : F .symmetric
     )
 
     fork-faithful : Faithful F M w s i (applyPossibility F s x more f)
-    unfolding applyPossibility necessitiesAfterPossibility visiting
+    unfolding applyPossibility visiting
     fork-faithful =
         let P = Ok M par′ img′ rs t S in
         let u = t ++ two in
@@ -301,10 +301,7 @@ module _ (F : Flags) (M : Model) (has : Has F M) (w : ℕ) (begun : F .symmetric
           low = every-append (Low F g) t (two ++ rest .nodes) (λ y h. omega (arith, i .low y h, high, init-worlds F g .1))
               (omega (arith, high, init-worlds F g .1), (omega (arith, high, init-worlds F g .1), after-labels (Low F g) (s .necessities) t g k (n + 2) (each-any (Gifts (Low F g) g) (gifts-low g) (s .necessities))));
           origin = origin′;
-          stand = each-reverse (Stands M par′ img′ rs t S) (map _ (s .necessities))
-              (each-of-map (Stands M par′ img′ rs t S) _ (s .necessities)
-              (each-map (λ (a : Necessity) (q : Stands M par′ img′ rs t S a).
-              cond-both (Stands M par′ img′ rs t S) (isReapplied t k a) (visiting t g a) a (record { known = q .known; occurs = q .occurs; true-there = q .true-there }) q) (s .necessities) stand′));
+          stand = after-each (Stands M par′ img′ rs t S) t g k (λ a q. record { known = q .known; occurs = q .occurs; true-there = q .true-there }) (s .necessities) stand′;
         }
 
   possible-faithful : (more : List Rec) (f : ℕ) → x < length t → WellFormed (s .formulas ++ more) →

@@ -1,0 +1,81 @@
+-- The trays: what is written has exactly its length, and everything beyond it, and every refused call's trays, stay as lent.
+use mathlib.Core.Path.{_≡_, refl, sym, ap, _∙_, subst}
+use mathlib.Core.Bool.{Bool, true, false, cond}
+use mathlib.Core.List.{List, [], _∷_, _++_, map}
+use Prim.Native.Nat.{ℕ, _≤_, _+_, _*_, _-_}
+use native.Mathlib.Omega.{arith}
+use lib.ListN.{length, replicate, take, drop, length-append, length-map, length-drop, length-replicate}
+use lib.Seq.{take-at, drop-append-seam}
+use Rattle.definition.specs.Limits.{mostIdentifiers, mostWorlds, nodeTrayLength, formulaTrayLength, edgeTrayLength}
+use Rattle.definition.specs.Lists.{concatMap}
+use Rattle.definition.specs.Records.{Rec}
+use Rattle.definition.specs.Tree.{Node}
+use Rattle.definition.specs.Run.{State}
+use Rattle.definition.specs.Trays.{Trays, nodeBytes, recordBytes, rowNumber, padded, traysOf, zeroTrays, over, laidOver}
+
+-- the three lengths
+pub record Sized (t : Trays) : Type 0 where
+  pub nodes : length (t .nodes) ≡ nodeTrayLength
+  pub formulas : length (t .formulas) ≡ formulaTrayLength
+  pub edges : length (t .edges) ≡ edgeTrayLength
+
+length-padded : (n : ℕ) (s : List ℕ) → length s ≤ n → length (padded n s) ≡ n
+unfolding padded
+length-padded n s h = omega (arith, h, length-append s (replicate (n - length s) 0), length-replicate {A = ℕ} (n - length s) 0)
+
+length-parts : {A : Type 0} (k : ℕ) (f : A → List ℕ) → ((x : A) → length (f x) ≡ k) → (xs : List A) → length (concatMap f xs) ≡ k * length xs
+length-parts k f h [] = omega arith
+length-parts k f h (x ∷ xs) = simp length-append (omega (arith, h x, length-parts k f h xs))
+
+node-length : (n : Node) → length (nodeBytes n) ≡ 12
+unfolding nodeBytes
+node-length n = refl
+
+record-length : (r : Rec) → length (recordBytes r) ≡ 6
+unfolding recordBytes
+record-length r = refl
+
+-- the counts fill the trays at most: 512 nodes of 12 bytes, 1,280 records of 6, 25 rows
+pub trays-sized : (s : State) → length (s .nodes) ≤ mostIdentifiers → length (s .formulas) ≤ 1280 → length (s .graph .rows) ≤ mostWorlds → Sized (traysOf s)
+unfolding traysOf
+trays-sized s a b c =
+    record {
+      nodes = length-padded nodeTrayLength _ (omega (arith, a, length-parts 12 nodeBytes node-length (s .nodes)));
+      formulas = length-padded formulaTrayLength _ (omega (arith, b, length-parts 6 recordBytes record-length (s .formulas)));
+      edges = length-padded edgeTrayLength _ (omega (arith, c, length-map (s .graph .rows) rowNumber));
+    }
+
+pub zero-sized : Sized zeroTrays
+unfolding zeroTrays
+zero-sized = record { nodes = length-replicate {A = ℕ} 6144 0; formulas = length-replicate {A = ℕ} 7680 0; edges = length-replicate {A = ℕ} 25 0 }
+
+-- a tray keeps its length, and what lies beyond the first n numbers
+pub record Beyond (n : ℕ) (before after : List ℕ) : Type 0 where
+  pub long : length after ≡ length before
+  pub rest : drop n after ≡ drop n before
+
+pub record Kept (before after : Trays) : Type 0 where
+  pub nodes : Beyond nodeTrayLength (before .nodes) (after .nodes)
+  pub formulas : Beyond formulaTrayLength (before .formulas) (after .formulas)
+  pub edges : Beyond edgeTrayLength (before .edges) (after .edges)
+
+over-kept : (n : ℕ) (written lent : List ℕ) → length written ≡ n → n ≤ length lent → Beyond n lent (over written lent)
+unfolding over
+over-kept n written lent e h =
+    record {
+      long = omega (arith, length-append written (drop (length written) lent), length-drop (length written) lent, e, h);
+      rest = subst (λ (m : ℕ). drop m (written ++ drop (length written) lent) ≡ drop m lent) e (drop-append-seam written (drop (length written) lent));
+    }
+
+pub same-kept : (t : Trays) → Kept t t
+same-kept t = record { nodes = record { long = refl; rest = refl }; formulas = record { long = refl; rest = refl }; edges = record { long = refl; rest = refl } }
+
+pub laid-kept : (t lent : Trays) → Sized t → nodeTrayLength ≤ length (lent .nodes) → formulaTrayLength ≤ length (lent .formulas) → edgeTrayLength ≤ length (lent .edges) →
+    Kept lent (laidOver t lent)
+unfolding laidOver
+laid-kept t lent s a b c =
+    record {
+      nodes = over-kept nodeTrayLength (t .nodes) (lent .nodes) (s .nodes) a;
+      formulas = over-kept formulaTrayLength (t .formulas) (lent .formulas) (s .formulas) b;
+      edges = over-kept edgeTrayLength (t .edges) (lent .edges) (s .edges) c;
+    }
