@@ -30,7 +30,8 @@ use Rattle.definition.proofs.Forms.{WellFormed}
 use Rattle.definition.proofs.Priest
 use Rattle.definition.proofs.Priest.{Fit, made-two, made-fit, expansion-wf, rule-known}
 use Rattle.definition.proofs.Edges.{init-one, init-less, init-worlds, fork-worlds, Squared, squared-init, squared-fork, squared-empty}
-use Rattle.definition.proofs.Given.{Gifts, unvisited-each, reapply-labels, after-labels, after-each}
+use Rattle.definition.proofs.Given.{unvisited-each, after-each}
+use Rattle.definition.proofs.Made.{Gifts, reapply-each, after-each-node}
 use Rattle.definition.proofs.Sound.{marks-known, rooted-every}
 
 -- none, or below n
@@ -113,7 +114,7 @@ module _ (F : Flags) (k : ℕ) (s : State) (h : Sizes F k s) (few : s .graph .wo
         necessities = necessities-fit;
       }
 
-  gifts-fit : (g : Graph) (n : Necessity) → NecessityFits m (length t) n → Gifts (LabelFits (initializeGraphIfNeeded F g .worlds) m (length t)) g n
+  gifts-fit : (g : Graph) (n : Necessity) → NecessityFits m (length t) n → Gifts (λ (a : Node). LabelFits (initializeGraphIfNeeded F g .worlds) m (length t) (label a)) g n
   gifts-fit g n q =
       each-map (λ v (a : (v < g .worlds) × (edge g (n .world) v ≡ true)). record { world = omega (arith, a .0, init-worlds F g .1); formula = inr (q .0); spawner = inr (q .1) })
       (unvisited g n) (unvisited-each g n)
@@ -152,7 +153,7 @@ module _ (F : Flags) (k : ℕ) (s : State) (h : Sizes F k s) (few : s .graph .wo
           record { world = omega (arith, high, init-worlds F g .1); formula = inr q; spawner = inr hx },
           (
             record { world = init-worlds F g .0; formula = inl refl; spawner = inr hx },
-            after-labels (LabelFits (initializeGraphIfNeeded F g .worlds) m (length t)) (s .necessities) t g v (length t + 2) (each-map (gifts-fit g) (s .necessities) necessities-fit),
+            after-each-node (λ (a : Node). LabelFits (initializeGraphIfNeeded F g .worlds) m (length t) (label a)) (s .necessities) t g v (length t + 2) (each-map (gifts-fit g) (s .necessities) necessities-fit),
           ),
         );
         necessities = after-each (NecessityFits m (length t)) t g v (λ n a. a) (s .necessities) necessities-fit;
@@ -164,7 +165,7 @@ module _ (F : Flags) (k : ℕ) (s : State) (h : Sizes F k s) (few : s .graph .wo
         squared = squared-init F (s .graph) (h .squared);
         worlds = init-fits;
         wider = init-worlds F g .1;
-        labels = reapply-labels (LabelFits (initializeGraphIfNeeded F g .worlds) m (length t)) t g none (length t) n (gifts-fit g n (q, hx));
+        labels = reapply-each (λ (a : Node). LabelFits (initializeGraphIfNeeded F g .worlds) m (length t) (label a)) t g none (length t) n (gifts-fit g n (q, hx));
         necessities = ((q, hx), necessities-fit);
       }
 

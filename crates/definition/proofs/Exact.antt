@@ -18,18 +18,12 @@ use Rattle.definition.specs.Queue.{Popped, pop}
 use Rattle.definition.specs.Run.{State, apply, checkForContradictions, appended, stepBy, step, ended, full, steps, stops, run, unlimitedRun, start, final}
 use Rattle.definition.proofs.Lists.{true-false, either, cond-both, or-left, or-right, or-true}
 use Rattle.definition.proofs.Nodes.{Ext, ext-result}
-use Rattle.definition.proofs.Count.{Counted, checked-length, due, start-counted}
+use Rattle.definition.proofs.Growing.{step-keeps, steps-keep}
+use Rattle.definition.proofs.Count.{Counted, due, start-counted}
 
 -- a step takes no identifier back
 pub step-grows : (F : Flags) (s : State) → length (s .nodes) ≤ length (step F s .nodes)
-unfolding step stepBy appended
-step-grows F s = go (pop (s .formulas) (s .nodes) (s .waiting))
-  where
-    go : (o : Option Popped) → length (s .nodes) ≤ length (stepBy F s o .nodes)
-    go none = omega arith
-    go (some p) =
-        let r = apply F s (p .node) in
-        omega (arith, checked-length F (appended F s p), ext-result (r .subtrees) (s .nodes ++ r .nodes) (p .others) .longer, length-append (s .nodes) (r .nodes))
+step-grows F s = step-keeps F s .longer
 
 -- nor does a part of one: the first subtrees of a result, and then the others
 pub result-append : (xs ys : List Targeted) (t : List Node) (q : List ℕ) →
@@ -62,11 +56,7 @@ module _ (test : State → Bool) (F : Flags) where
       go false d f = f d
 
   pub steps-grow : (n : ℕ) (s : State) → length (s .nodes) ≤ length (steps test n F s .nodes)
-  unfolding steps
-  steps-grow zero s = omega arith
-  steps-grow (suc n) s =
-      cond-both (λ (z : State). length (s .nodes) ≤ length (z .nodes)) (test s) s (steps test n F (step F s)) (omega arith)
-      (omega (arith, step-grows F s, steps-grow n (step F s)))
+  steps-grow n s = steps-keep test n F s .longer
 
   longer-grow : (n k : ℕ) (s : State) → n ≤ k → length (steps test n F s .nodes) ≤ length (steps test k F s .nodes)
   unfolding steps

@@ -16,7 +16,7 @@ use Rattle.definition.specs.Tree.{Node, newNode, nodeAt, upward, leaves,
 use Rattle.definition.specs.Subtree.{Targeted, withMiddle}
 use Rattle.definition.specs.Modality.{Necessity, Fork, Made, runsThrough, forkedOn, occurs, unvisited, giveOn, leavesOf, reapplyNecessity, isReapplied, reapplyIfOnPath, visiting, reapplyNecessityAfterPossibility, necessitiesAfterPossibility}
 use Rattle.definition.proofs.Lists.{true-false, and-left, and-right, or-cases, either, cond-both, Some, each-map, each-append, each-filter, filter-each, each-of-map, each-reverse, some-each, some-pick, any-some, elem-each, below-each}
-use Rattle.definition.proofs.Nodes.{blank, Label, label, Ext, ext-append}
+use Rattle.definition.proofs.Nodes.{blank, Ext, ext-append}
 use Rattle.definition.proofs.Open.{Whole, path-in, path-elem, Chain, no-chain, middle-chain, Side, side-map}
 use Rattle.definition.proofs.Placing.{OkNode, Fine, fine-ext, amid-fine}
 
@@ -40,39 +40,6 @@ unvisited-each g n =
 pub middle-side : (P : ℕ → Type 0) (cs : List ℕ) → Each P cs → Side P (withMiddle cs)
 middle-side P [] h = ([], no-chain, tt)
 middle-side P (c ∷ cs) h = (c ∷ cs, middle-chain [] c cs [], h)
-
--- the labels of the nodes that necessities give
-module _ (Q : Label → Type 0) where
-  abbrev pub Labelled : List Node → Type 0
-  Labelled = Each (λ (m : Node). Q (label m))
-
-  abbrev pub Gifts : Graph → Necessity → Type 0
-  Gifts g n = Each (λ v. Q (record { world = v; formula = n .formula; spawner = n .spawner })) (unvisited g n)
-
-  give-labels : (ls : List ℕ) (t : List Node) (k : Option Fork) (n : Necessity) (worlds : List ℕ) (next : ℕ) →
-      Each (λ v. Q (record { world = v; formula = n .formula; spawner = n .spawner })) worlds → Labelled (giveOn t k n worlds next ls .nodes)
-  unfolding giveOn
-  give-labels [] t k n worlds next h = tt
-  give-labels (leaf ∷ ls) t k n worlds next h =
-      let here = filter (occurs t k (path t leaf)) worlds in
-      let make = newNode (n .spawner) (n .formula) in
-      each-append (λ (m : Node). Q (label m)) (map make here) _
-      (each-of-map (λ (m : Node). Q (label m)) make here (each-map (λ v (a : Q (label (make v)) × (occurs t k (path t leaf) v ≡ true)). a .0) here (each-filter (λ v. Q (label (make v))) (occurs t k (path t leaf)) worlds h)))
-      (give-labels ls t k n worlds (next + length here) h)
-
-  pub reapply-labels : (t : List Node) (g : Graph) (k : Option Fork) (next : ℕ) (n : Necessity) → Gifts g n → Labelled (reapplyNecessity t g k next n .nodes)
-  unfolding reapplyNecessity
-  reapply-labels t g k next n h = give-labels (leavesOf t n) t k n (unvisited g n) next h
-
-  pub after-labels : (ns : List Necessity) (t : List Node) (g : Graph) (k : Fork) (next : ℕ) → Each (Gifts g) ns →
-      Labelled (reapplyNecessityAfterPossibility t g k next ns .nodes)
-  unfolding reapplyNecessityAfterPossibility reapplyIfOnPath
-  after-labels [] t g k next h = tt
-  after-labels (n ∷ ns) t g k next h =
-      let one = reapplyIfOnPath t g k next n in
-      each-append (λ (m : Node). Q (label m)) (one .nodes) _
-      (cond-both (λ (m : Made). Labelled (m .nodes)) (isReapplied t k n) (reapplyNecessity t g (some k) next n) (record { nodes = []; subtrees = [] }) (reapply-labels t g (some k) next n (h .0)) tt)
-      (after-labels ns t g k (next + length (one .nodes)) (h .1))
 
 -- what visiting keeps, every stored necessity keeps at a fork
 pub after-each : (P : Necessity → Type 0) (t : List Node) (g : Graph) (k : Fork) → ((n : Necessity) → P n → P (visiting t g n)) → (ns : List Necessity) → Each P ns →

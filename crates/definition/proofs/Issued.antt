@@ -3,7 +3,7 @@ use mathlib.Core.Path.{_≡_, refl, sym, ap, _∙_, subst}
 use mathlib.Core.Bool.{Bool, true, false}
 use mathlib.Core.List.{List, [], _∷_, _++_, map, reverse, reverseAux, append-nil, append-assoc}
 use mathlib.Core.Option.{Option, none, some}
-use mathlib.Core.Logic.{_≢_}
+use mathlib.Core.Logic.{⊎-elim, _≢_}
 use Prim.Native.Nat.{ℕ, zero, suc, _<_, _≤_, _+_}
 use native.Mathlib.Omega.{arith}
 use lib.ListN.{length, length-append, length-map, length-reverse}
@@ -16,7 +16,7 @@ use Rattle.definition.specs.Rules.{Rule, nothing, down, split, asPossibl
 use Rattle.definition.specs.Subtree.{Subtree, Targeted, withMiddle, withLeftRight, flat, turned, numbered}
 use Rattle.definition.specs.Modality.{Necessity, Fork, Made, occurs, giveOn, unvisited, leavesOf, reapplyNecessity, isReapplied, reapplyIfOnPath, reapplyNecessityAfterPossibility}
 use Rattle.definition.specs.Run.{State, LogicRuleResult, applyHere, applyPossibility, applyNecessity, applyRule, apply}
-use Rattle.definition.proofs.Lists.{each-map, each-append, each-left, each-right, each-reverse, upFrom-each, cond-both}
+use Rattle.definition.proofs.Lists.{alike, each-map, each-both, each-append, each-left, each-right, each-reverse, filter-keeps, upFrom-each, cond-both}
 
 abbrev pub Distinct : List ℕ → Type 0
 Distinct [] = Unit {0}
@@ -231,3 +231,35 @@ rule-issued F s x more (asNecessary f) = reapply-issued (s .nodes) (initializeGr
 pub apply-issued : (F : Flags) (s : State) (x : ℕ) → Takes (length (s .nodes)) (apply F s x)
 unfolding apply
 apply-issued F s x = let e = expansion (s .formulas) (nodeAt (s .nodes) x .formula) in rule-issued F s x (e .made) (e .rule)
+
+-- lists whose elements differ by what they have
+pub apart-by : {P Q : ℕ → Type 0} (xs ys : List ℕ) → ((x y : ℕ) → P x → Q y → y ≢ x) → Each P xs → Each Q ys → Apart xs ys
+apart-by xs ys f h k = each-map (λ y q. each-map (λ x p. f x y p q) xs h) ys k
+
+pub distinct-filter : (p : ℕ → Bool) (xs : List ℕ) → Distinct xs → Distinct (filter p xs)
+distinct-filter p [] h = tt
+distinct-filter p (x ∷ xs) h =
+    cond-both Distinct (p x) (x ∷ filter p xs) (filter p xs)
+    (filter-keeps (λ y. y ≢ x) p xs (h .0), distinct-filter p xs (h .1)) (distinct-filter p xs (h .1))
+
+-- all of the list but m: distinct, below m, at most one fewer, and what no element of the list was
+but : (m : ℕ) (xs : List ℕ) → Distinct xs → Each (λ x. x < suc m) xs →
+    (ys : List ℕ) × Distinct ys × Each (λ y. y < m) ys × (length xs ≤ suc (length ys)) × ((y : ℕ) → Each (λ x. x ≢ y) xs → Each (λ x. x ≢ y) ys)
+but m [] d h = ([], tt, tt, omega arith, λ y k. tt)
+but m (x ∷ xs) d h =
+    let b = but m xs (d .1) (h .1) in
+    ⊎-elim (λ (q : x ≡ m). (xs, d .1, each-both (λ y (e : y ≢ x) (l : y < suc m). omega (arith, e, l, q)) xs (d .0) (h .1), omega arith, λ y k. k .1))
+    (λ (q : x ≢ m). (x ∷ b .0, (b .4 x (d .0), b .1), (omega (arith, h .0, q), b .2), omega (arith, b .3), λ y k. (k .0, b .4 y (k .1)))) (alike x m)
+
+-- distinct numbers below n are at most n
+pub pigeonhole : (n : ℕ) (xs : List ℕ) → Distinct xs → Each (λ x. x < n) xs → length xs ≤ n
+pigeonhole zero [] d h = omega arith
+pigeonhole zero (x ∷ xs) d h = absurd (omega (arith, h .0))
+pigeonhole (suc n) xs d h =
+    let b = but n xs d h in
+    omega (arith, b .3, pigeonhole n (b .0) (b .1) (b .2))
+
+-- the first of the subtrees take the first of the identifiers
+pub issued-front : (lo hi : ℕ) (rs ss : List Targeted) → Issued lo hi (rs ++ ss) → (mid : ℕ) × Issued lo mid rs × (mid ≤ hi)
+issued-front lo hi [] ss h = (lo, refl, issued-le lo hi ss h)
+issued-front lo hi (r ∷ rs) ss h = let k = issued-front (h .0) hi rs ss (h .2) in (k .0, (h .0, h .1, k .1), k .2)

@@ -17,3 +17,7 @@ pub mod Step
 pub mod Sound
 pub mod TraysKept
 pub mod Bounds
+pub mod Treed
+pub mod Linking
+pub mod Growing
+pub mod Made

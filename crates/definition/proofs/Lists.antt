@@ -218,3 +218,11 @@ full-onto (x ∷ xs) ys h = full-onto xs (x ∷ ys) tt
 pub full-reverse : {A : Type 0} (xs : List A) → Full xs → Full (reverse xs)
 full-reverse [] h = h
 full-reverse (x ∷ xs) h = full-onto xs (x ∷ []) tt
+
+-- what held of each element holds of those that pass
+pub filter-keeps : {A : Type 0} (P : A → Type 0) (p : A → Bool) (xs : List A) → Each P xs → Each P (filter p xs)
+filter-keeps P p xs h = each-map (λ x (k : P x × (p x ≡ true)). k .0) (filter p xs) (each-filter P p xs h)
+
+-- two numbers are equal or not
+pub alike : (x y : ℕ) → (x ≡ y) ⊎ (x ≢ y)
+alike x y = ⊎-elim (λ q. inl (eqb-true x y q)) (λ q. inr (eqb-false x y q)) (either (eqb x y))

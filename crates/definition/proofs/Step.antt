@@ -23,13 +23,14 @@ use Rattle.definition.proofs.Lists.{true-false, either, Some, each-map,
 use Rattle.definition.proofs.Nodes.{blank, Label, label}
 use Rattle.definition.proofs.Every.{Every, every-append}
 use Rattle.definition.proofs.Issued.{each-turned}
+use Rattle.definition.proofs.Made.{Gifts, reapply-each, after-each-node}
 use Rattle.definition.proofs.Forms.{WellFormed}
 use Rattle.definition.proofs.Priest.{Filled, no-rule, rule-filled, expansion-wf, Holds, holds-more, Fits, rule-fits}
 use Rattle.definition.proofs.Clash.{Sat}
 use Rattle.definition.proofs.Edges.{Edges, init-edges, init-worlds, with-parent, with-parent-old, with-parent-new, fork-edges, fork-worlds, rel-sound}
 use Rattle.definition.proofs.Open.{path-elem, Side, side-map, side-turned, left-full, right-full}
 use Rattle.definition.proofs.Placing.{OkNode, Fine, amid-fine, made-side}
-use Rattle.definition.proofs.Given.{Occurs, Occurring, Good, Gives, Gifts, middle-side, leaf-known, unvisited-each, reapply-good, after-good, reapply-labels, after-labels, after-each}
+use Rattle.definition.proofs.Given.{Occurs, Occurring, Good, Gives, middle-side, leaf-known, unvisited-each, reapply-good, after-good, after-each}
 use Rattle.definition.proofs.Invariant.{World, Ok, Stands, Low, Inv, Faithful}
 
 -- a turned subtree is numbered alike
@@ -129,7 +130,7 @@ module _ (F : Flags) (M : Model) (has : Has F M) (w : ℕ) (begun : F .symmetric
         (unvisited g n) (unvisited-each g n)
 
   -- the worlds that a graph's necessities give are low in it
-  gifts-low : (g : Graph) (n : Necessity) → Gifts (Low F g) g n
+  gifts-low : (g : Graph) (n : Necessity) → Gifts (λ (m : Node). Low F g (label m)) g n
   gifts-low g n = each-map (λ v (a : (v < g .worlds) × (edge g (n .world) v ≡ true)). omega (arith, a .0, init-worlds F g .1)) (unvisited g n) (unvisited-each g n)
 
   necessary-faithful : (more : List Rec) (f : ℕ) → x < length t → WellFormed (s .formulas ++ more) →
@@ -145,7 +146,7 @@ module _ (F : Flags) (M : Model) (has : Has F M) (w : ℕ) (begun : F .symmetric
             reapply-good P t S (i .put .whole) t g none n (n-stands .known)
             (gives rs (i .par) (i .img) (fine-more more) g edges none (λ v o. subst (World M (i .par) (i .img) t S) (o .2) (i .put .fine (o .0) (o .1) .0)) (i .origin) n n-stands);
         edges = edges;
-        low = every-append (Low F g) t _ (λ y h. omega (arith, i .low y h, init-worlds F g .1)) (reapply-labels (Low F g) t g none (length t) n (gifts-low g n));
+        low = every-append (Low F g) t _ (λ y h. omega (arith, i .low y h, init-worlds F g .1)) (reapply-each (λ (m : Node). Low F g (label m)) t g none (length t) n (gifts-low g n));
         origin = i .origin;
         stand = (record { known = n-stands .known; occurs = n-stands .occurs; true-there = n-stands .true-there }, stand-more more);
       }
@@ -299,7 +300,7 @@ module _ (F : Flags) (M : Model) (has : Has F M) (w : ℕ) (begun : F .symmetric
           );
           edges = edges′;
           low = every-append (Low F g) t (two ++ rest .nodes) (λ y h. omega (arith, i .low y h, high, init-worlds F g .1))
-              (omega (arith, high, init-worlds F g .1), (omega (arith, high, init-worlds F g .1), after-labels (Low F g) (s .necessities) t g k (n + 2) (each-any (Gifts (Low F g) g) (gifts-low g) (s .necessities))));
+              (omega (arith, high, init-worlds F g .1), (omega (arith, high, init-worlds F g .1), after-each-node (λ (m : Node). Low F g (label m)) (s .necessities) t g k (n + 2) (each-any (Gifts (λ (m : Node). Low F g (label m)) g) (gifts-low g) (s .necessities))));
           origin = origin′;
           stand = after-each (Stands M par′ img′ rs t S) t g k (λ a q. record { known = q .known; occurs = q .occurs; true-there = q .true-there }) (s .necessities) stand′;
         }
