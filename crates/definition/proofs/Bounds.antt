@@ -32,15 +32,8 @@ use Rattle.definition.proofs.Priest.{Fit, made-two, made-fit, expansion
 use Rattle.definition.proofs.Edges.{init-one, init-less, init-worlds, fork-worlds, Squared, squared-init, squared-fork, squared-empty}
 use Rattle.definition.proofs.Given.{unvisited-each, after-each}
 use Rattle.definition.proofs.Made.{Gifts, reapply-each, after-each-node}
+use Rattle.definition.proofs.Fields.{Number, more-number}
 use Rattle.definition.proofs.Sound.{marks-known, rooted-every}
-
--- none, or below n
-abbrev pub Number : ℕ → ℕ → Type 0
-Number n x = (x ≡ nobody) ⊎ (x < n)
-
-more-number : (m n x : ℕ) → m ≤ n → Number m x → Number n x
-more-number m n x h (inl e) = inl e
-more-number m n x h (inr e) = inr (omega arith)
 
 -- a label with a world below b, a formula below m, a spawner below n
 pub record LabelFits (b m n : ℕ) (l : Label) : Type 0 where

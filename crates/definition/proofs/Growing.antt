@@ -225,13 +225,17 @@ rooted-treed x xs h few =
     (rw append-nil (each-map {Q = Free (root ++ xs)} (λ z (w : (1 ≤ z) × (z < 1 + length xs)). (append-out root xs h z (w .0), omega (arith, w .1), λ e. omega (arith, w .1, few, len, e))) cs (upFrom-each (length xs) 1)))
     (rw append-nil (rising-distinct (length xs) 1))
 
-pub start-treed : (F : Flags) (rs : List Rec) → empty (marks rs) ≡ false → length (start F rs .nodes) ≤ nobody → Treed (start F rs .nodes)
-unfolding start begun branchNodes
-start-treed F rs e few = let k = check-keeps F (begun rs) in k .treed (go (marks rs) e (omega (arith, k .longer, few))) few
+pub begun-treed : (rs : List Rec) → empty (marks rs) ≡ false → length (begun rs .nodes) ≤ nobody → Treed (begun rs .nodes)
+unfolding begun branchNodes
+begun-treed rs e few = go (marks rs) e few
   where
     go : (fs : List ℕ) → empty fs ≡ false → length (rooted (map (λ f. newNode nobody f 0) fs)) ≤ nobody → Treed (rooted (map (λ f. newNode nobody f 0) fs))
     go [] q l = true-false q
     go (f ∷ fs) q l = rooted-treed (newNode nobody f 0) (map (λ f. newNode nobody f 0) fs) (map-new (λ f. newNode nobody f 0) (λ f. refl) fs) l
+
+pub start-treed : (F : Flags) (rs : List Rec) → empty (marks rs) ≡ false → length (start F rs .nodes) ≤ nobody → Treed (start F rs .nodes)
+unfolding start
+start-treed F rs e few = let k = check-keeps F (begun rs) in k .treed (begun-treed rs e (omega (arith, k .longer, few))) few
 
 -- s is a state of a run of a branch, whatever ends the run
 pub record Reached (F : Flags) (rs : List Rec) (s : State) : Type 0 where

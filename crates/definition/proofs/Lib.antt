@@ -21,3 +21,4 @@ pub mod Treed
 pub mod Linking
 pub mod Growing
 pub mod Made
+pub mod Fields
