@@ -55,240 +55,242 @@ pub record RecordFits (r : Rec) : Type 0 where
 abbrev NecessityFits : ℕ → ℕ → Necessity → Type 0
 NecessityFits m n k = (k .formula < m) × (k .spawner < n)
 
--- what a run over k records keeps, while it is not full
-pub record Sizes (F : Flags) (k : ℕ) (s : State) : Type 0 where
-  pub wf : WellFormed (s .formulas)
-  pub formulas : length (s .formulas) ≤ k + (s .steps + s .steps)
-  pub records : Each RecordFits (s .formulas)
-  pub squared : Squared (s .graph)
-  pub worlds : s .graph .worlds ≤ mostWorlds
-  pub labels : Every (LabelFits (initializeGraphIfNeeded F (s .graph) .worlds) (length (s .formulas)) (length (s .nodes))) (s .nodes)
-  pub necessities : Each (NecessityFits (length (s .formulas)) (length (s .nodes))) (s .necessities)
+-- P holds of every record of the branch, and of every record whose numbers fit
+module _ (P : Rec → Type 0) (ok : (r : Rec) → RecordFits r → P r) where
+  -- what a run over k records keeps, while it is not full
+  pub record Sizes (F : Flags) (k : ℕ) (s : State) : Type 0 where
+    pub wf : WellFormed (s .formulas)
+    pub formulas : length (s .formulas) ≤ k + (s .steps + s .steps)
+    pub records : Each P (s .formulas)
+    pub squared : Squared (s .graph)
+    pub worlds : s .graph .worlds ≤ mostWorlds
+    pub labels : Every (LabelFits (initializeGraphIfNeeded F (s .graph) .worlds) (length (s .formulas)) (length (s .nodes))) (s .nodes)
+    pub necessities : Each (NecessityFits (length (s .formulas)) (length (s .nodes))) (s .necessities)
 
--- with its counts
-pub record Bounded (F : Flags) (k : ℕ) (s : State) : Type 0 where
-  pub counted : Counted s
-  pub known : Known (s .nodes) (s .waiting)
-  pub sizes : Sizes F k s
+  -- with its counts
+  pub record Bounded (F : Flags) (k : ℕ) (s : State) : Type 0 where
+    pub counted : Counted s
+    pub known : Known (s .nodes) (s .waiting)
+    pub sizes : Sizes F k s
 
--- what a rule's result has: more is the number of formulas with those made
-record ResultFits (F : Flags) (more n : ℕ) (g : Graph) (r : LogicRuleResult) : Type 0 where
-  squared : Squared (r .graph)
-  worlds : r .graph .worlds ≤ mostWorlds
-  wider : initializeGraphIfNeeded F g .worlds ≤ initializeGraphIfNeeded F (r .graph) .worlds
-  labels : Each (λ (m : Node). LabelFits (initializeGraphIfNeeded F (r .graph) .worlds) more n (label m)) (r .nodes)
-  necessities : Each (NecessityFits more n) (r .necessities)
+  -- what a rule's result has: more is the number of formulas with those made
+  record ResultFits (F : Flags) (more n : ℕ) (g : Graph) (r : LogicRuleResult) : Type 0 where
+    squared : Squared (r .graph)
+    worlds : r .graph .worlds ≤ mostWorlds
+    wider : initializeGraphIfNeeded F g .worlds ≤ initializeGraphIfNeeded F (r .graph) .worlds
+    labels : Each (λ (m : Node). LabelFits (initializeGraphIfNeeded F (r .graph) .worlds) more n (label m)) (r .nodes)
+    necessities : Each (NecessityFits more n) (r .necessities)
 
-module _ (F : Flags) (k : ℕ) (s : State) (h : Sizes F k s) (few : s .graph .worlds < mostWorlds) (x : ℕ) (hx : x < length (s .nodes)) (more : List Rec) where
-  abbrev t : List Node
-  t = s .nodes
+  module _ (F : Flags) (k : ℕ) (s : State) (h : Sizes F k s) (few : s .graph .worlds < mostWorlds) (x : ℕ) (hx : x < length (s .nodes)) (more : List Rec) where
+    abbrev t : List Node
+    t = s .nodes
 
-  abbrev m : ℕ
-  m = length (s .formulas ++ more)
+    abbrev m : ℕ
+    m = length (s .formulas ++ more)
 
-  abbrev b : ℕ
-  b = initializeGraphIfNeeded F (s .graph) .worlds
+    abbrev b : ℕ
+    b = initializeGraphIfNeeded F (s .graph) .worlds
 
-  longer : length (s .formulas) ≤ m
-  longer = omega (arith, length-append (s .formulas) more)
+    longer : length (s .formulas) ≤ m
+    longer = omega (arith, length-append (s .formulas) more)
 
-  necessities-fit : Each (NecessityFits m (length t)) (s .necessities)
-  necessities-fit = each-map (λ (n : Necessity) (q : NecessityFits (length (s .formulas)) (length t) n). (omega (arith, q .0, longer), q .1)) (s .necessities) (h .necessities)
+    necessities-fit : Each (NecessityFits m (length t)) (s .necessities)
+    necessities-fit = each-map (λ (n : Necessity) (q : NecessityFits (length (s .formulas)) (length t) n). (omega (arith, q .0, longer), q .1)) (s .necessities) (h .necessities)
 
-  here-fits : (fs : Subtree) → Each (λ f. f < m) (flat fs) → ResultFits F m (length t) (s .graph) (applyHere s x more fs)
-  unfolding applyHere
-  here-fits fs q =
-      record {
+    here-fits : (fs : Subtree) → Each (λ f. f < m) (flat fs) → ResultFits F m (length t) (s .graph) (applyHere s x more fs)
+    unfolding applyHere
+    here-fits fs q =
+        record {
+          squared = h .squared;
+          worlds = h .worlds;
+          wider = omega arith;
+          labels = each-of-map (λ (a : Node). LabelFits b m (length t) (label a)) (λ f. newNode x f (nodeAt t x .world)) (flat (turned fs))
+              (each-map (λ f (l : f < m). record { world = h .labels x hx .world; formula = inr l; spawner = inr hx }) (flat (turned fs)) (each-turned (λ f. f < m) fs q));
+          necessities = necessities-fit;
+        }
+
+    gifts-fit : (g : Graph) (n : Necessity) → NecessityFits m (length t) n → Gifts (λ (a : Node). LabelFits (initializeGraphIfNeeded F g .worlds) m (length t) (label a)) g n
+    gifts-fit g n q =
+        each-map (λ v (a : (v < g .worlds) × (edge g (n .world) v ≡ true)). record { world = omega (arith, a .0, init-worlds F g .1); formula = inr (q .0); spawner = inr (q .1) })
+        (unvisited g n) (unvisited-each g n)
+
+    init-fits : b ≤ mostWorlds
+    init-fits = go (init-less F (s .graph))
+      where
+        go : (s .graph .worlds ≡ 0) ⊎ (b ≡ s .graph .worlds) → b ≤ mostWorlds
+        go (inl e) = omega (arith, init-one F (s .graph) e)
+        go (inr e) = omega (arith, e, few)
+
+    fork-fits : fork F (initializeGraphIfNeeded F (s .graph)) (nodeAt t x .world) .worlds ≤ mostWorlds
+    fork-fits = go (init-less F (s .graph))
+      where
+        e : fork F (initializeGraphIfNeeded F (s .graph)) (nodeAt t x .world) .worlds ≡ suc b
+        e = fork-worlds F (initializeGraphIfNeeded F (s .graph)) (nodeAt t x .world)
+
+        go : (s .graph .worlds ≡ 0) ⊎ (b ≡ s .graph .worlds) → fork F (initializeGraphIfNeeded F (s .graph)) (nodeAt t x .world) .worlds ≤ mostWorlds
+        go (inl d) = omega (arith, init-one F (s .graph) d, e)
+        go (inr d) = omega (arith, d, few, e)
+
+    rule-fits : (r : Rule ℕ) → Priest.Known m r → ResultFits F m (length t) (s .graph) (applyRule F s x more r)
+    unfolding applyRule applyPossibility applyNecessity visiting flat
+    rule-fits nothing q = here-fits (withMiddle []) tt
+    rule-fits (down fs) q = here-fits (withMiddle fs) (each-append (λ f. f < m) fs [] q tt)
+    rule-fits (split fs gs) q = here-fits (withLeftRight fs gs) (each-append (λ f. f < m) fs gs (q .0) (q .1))
+    rule-fits (asPossible f) q =
+        let g = fork F (initializeGraphIfNeeded F (s .graph)) (nodeAt t x .world) in
+        let v : Fork = record { node = x; world = b } in
+        let high = fork-worlds F (initializeGraphIfNeeded F (s .graph)) (nodeAt t x .world) in
+        record {
+          squared = squared-fork F (initializeGraphIfNeeded F (s .graph)) (nodeAt t x .world);
+          worlds = fork-fits;
+          wider = omega (arith, high, init-worlds F g .1);
+          labels = (
+            record { world = omega (arith, high, init-worlds F g .1); formula = inr q; spawner = inr hx },
+            (
+              record { world = init-worlds F g .0; formula = inl refl; spawner = inr hx },
+              after-each-node (λ (a : Node). LabelFits (initializeGraphIfNeeded F g .worlds) m (length t) (label a)) (s .necessities) t g v (length t + 2) (each-map (gifts-fit g) (s .necessities) necessities-fit),
+            ),
+          );
+          necessities = after-each (NecessityFits m (length t)) t g v (λ n a. a) (s .necessities) necessities-fit;
+        }
+    rule-fits (asNecessary f) q =
+        let g = initializeGraphIfNeeded F (s .graph) in
+        let n : Necessity = record { formula = f; world = nodeAt t x .world; spawner = x; leaves = filter (λ leaf. elem x (path t leaf)) (leaves t); visited = [] } in
+        record {
+          squared = squared-init F (s .graph) (h .squared);
+          worlds = init-fits;
+          wider = init-worlds F g .1;
+          labels = reapply-each (λ (a : Node). LabelFits (initializeGraphIfNeeded F g .worlds) m (length t) (label a)) t g none (length t) n (gifts-fit g n (q, hx));
+          necessities = ((q, hx), necessities-fit);
+        }
+
+  -- the check for contradictions changes no label
+  sizes-checked : (F : Flags) (k : ℕ) (s : State) → Sizes F k s → Sizes F k (checkForContradictions F s)
+  unfolding checkedForContradictions
+  sizes-checked F k s h =
+      let found = pairs (s .formulas) (s .nodes) (leaves (s .nodes)) in
+      let size = length-marks found (s .nodes) in
+      let fits = LabelFits (initializeGraphIfNeeded F (s .graph) .worlds) (length (s .formulas)) in
+      checked-both (Sizes F k) F s h
+      (record {
+        wf = h .wf;
+        formulas = h .formulas;
+        records = h .records;
         squared = h .squared;
         worlds = h .worlds;
-        wider = omega arith;
-        labels = each-of-map (λ (a : Node). LabelFits b m (length t) (label a)) (λ f. newNode x f (nodeAt t x .world)) (flat (turned fs))
-            (each-map (λ f (l : f < m). record { world = h .labels x hx .world; formula = inr l; spawner = inr hx }) (flat (turned fs)) (each-turned (λ f. f < m) fs q));
-        necessities = necessities-fit;
-      }
+        labels = rw size (λ x q. subst (fits (length (s .nodes))) (sym (mark-keeps label (λ j n. refl) found (s .nodes) x)) (h .labels x q));
+        necessities = rw size (h .necessities);
+      })
 
-  gifts-fit : (g : Graph) (n : Necessity) → NecessityFits m (length t) n → Gifts (λ (a : Node). LabelFits (initializeGraphIfNeeded F g .worlds) m (length t) (label a)) g n
-  gifts-fit g n q =
-      each-map (λ v (a : (v < g .worlds) × (edge g (n .world) v ≡ true)). record { world = omega (arith, a .0, init-worlds F g .1); formula = inr (q .0); spawner = inr (q .1) })
-      (unvisited g n) (unvisited-each g n)
+  -- not full, so that the formulas are few
+  few-formulas : (F : Flags) (k : ℕ) (s : State) → Bounded F k s → full s ≡ false → length (s .formulas) ≤ k + (mostIdentifiers + mostIdentifiers)
+  unfolding full Counted
+  few-formulas F k s h e = omega (arith, h .sizes .formulas, h .counted, ltb-false mostIdentifiers (length (s .nodes)) e)
 
-  init-fits : b ≤ mostWorlds
-  init-fits = go (init-less F (s .graph))
+  rule-made : (F : Flags) (s : State) (x : ℕ) (more : List Rec) (r : Rule ℕ) → applyRule F s x more r .formulas ≡ more
+  unfolding applyRule applyHere applyPossibility applyNecessity
+  rule-made F s x more nothing = refl
+  rule-made F s x more (down fs) = refl
+  rule-made F s x more (split fs gs) = refl
+  rule-made F s x more (asPossible f) = refl
+  rule-made F s x more (asNecessary f) = refl
+
+  -- a rule's result has the formulas that its expansion makes
+  pub apply-made : (F : Flags) (s : State) (x : ℕ) → apply F s x .formulas ≡ expansion (s .formulas) (nodeAt (s .nodes) x .formula) .made
+  unfolding apply
+  apply-made F s x = rule-made F s x _ _
+
+  -- all but the counts, which the step as a whole has
+  sizes-appended : (F : Flags) (k : ℕ) (s : State) (p : Popped) → k ≤ 256 → Bounded F k s → s .graph .worlds < mostWorlds → full s ≡ false → p .node < length (s .nodes) →
+      Sizes F k (appended F s p)
+  unfolding appended apply
+  sizes-appended F k s p small h few e hx =
+      let f = nodeAt (s .nodes) (p .node) .formula in
+      let more = expansion (s .formulas) f .made in
+      let r = apply F s (p .node) in
+      let z = h .sizes in
+      let fits = rule-fits F k s z few (p .node) hx more (expansion (s .formulas) f .rule) (rule-known (s .formulas) (z .wf) f) in
+      let n = length (s .nodes) in
+      let u = s .nodes ++ r .nodes in
+      let t′ = appendLogicRuleResult u (p .others) (r .subtrees) .nodes in
+      let lu = length-append (s .nodes) (r .nodes) in
+      let lm = length-append (s .formulas) more in
+      let lt = ext-result (r .subtrees) u (p .others) .longer in
+      let b = initializeGraphIfNeeded F (r .graph) .worlds in
+      let m = length (s .formulas ++ more) in
+      let placed = appendLogicRuleResult u (p .others) (r .subtrees) in
+      subst
+      (λ (made : List Rec).
+      Sizes F k
+      (record { formulas = s .formulas ++ made; nodes = placed .nodes; graph = r .graph; necessities = r .necessities; waiting = placed .waiting; proved = s .proved; steps = suc (s .steps) }))
+      (sym (apply-made F s (p .node)))
+      (record {
+        wf = expansion-wf (s .formulas) (z .wf) f;
+        formulas = omega (arith, z .formulas, lm, made-two (s .formulas) f);
+        records = each-append P (s .formulas) more (z .records)
+            (each-map (λ (a : Rec) (q : Fit (length (s .formulas) + 2) a). ok a (record { kind = q .0; mark = omega (arith, q .1); left = omega (arith, q .2, few-formulas F k s h e, small); right = omega (arith, q .3, few-formulas F k s h e, small) })) more (made-fit (s .formulas) (z .wf) f));
+        squared = fits .squared;
+        worlds = fits .worlds;
+        labels = every-result (LabelFits b m (length t′)) (r .subtrees) u (p .others) n (n + length (r .nodes)) (apply-issued F s (p .node)) (omega (arith, lu))
+            (every-append (LabelFits b m (length t′)) (s .nodes) (r .nodes)
+            (λ x q. more-label (initializeGraphIfNeeded F (s .graph) .worlds) (length (s .formulas)) n b m (length t′) (fits .wider) (omega (arith, lm)) (omega (arith, lt, lu)) (label (nodeAt (s .nodes) x)) (z .labels x q))
+            (each-map (λ (a : Node) (q : LabelFits b m n (label a)). more-label b m n b m (length t′) (omega arith) (omega arith) (omega (arith, lt, lu)) (label a) q) (r .nodes) (fits .labels)));
+        necessities = each-map (λ (a : Necessity) (q : NecessityFits m n a). (q .0, omega (arith, q .1, lt, lu))) (r .necessities) (fits .necessities);
+      })
+
+  bounded-step : (F : Flags) (k : ℕ) (s : State) → k ≤ 256 → stops s ≡ false → Bounded F k s → Bounded F k (step F s)
+  unfolding stops ended step stepBy
+  bounded-step F k s small e h = go (pop (s .formulas) (s .nodes) (s .waiting)) (pop-out (λ x. x < length (s .nodes)) (s .formulas) (s .nodes) (s .waiting)) (due F s busy (h .counted)) (known-step F s (h .known))
     where
-      go : (s .graph .worlds ≡ 0) ⊎ (b ≡ s .graph .worlds) → b ≤ mostWorlds
-      go (inl e) = omega (arith, init-one F (s .graph) e)
-      go (inr e) = omega (arith, e, few)
+      busy : ended s ≡ false
+      busy = or-left (ended s) (full s) e
 
-  fork-fits : fork F (initializeGraphIfNeeded F (s .graph)) (nodeAt t x .world) .worlds ≤ mostWorlds
-  fork-fits = go (init-less F (s .graph))
+      few : s .graph .worlds < mostWorlds
+      few = leb-false mostWorlds (s .graph .worlds) (or-right (empty (s .waiting)) _ (or-right (s .proved) _ busy))
+
+      go : (o : Option Popped) → Out (λ x. x < length (s .nodes)) (s .waiting) o → Counted (stepBy F s o) × (stepBy F s o .steps ≡ suc (s .steps)) → Known (stepBy F s o .nodes) (stepBy F s o .waiting) →
+          Bounded F k (stepBy F s o)
+      go none q c w = h
+      go (some p) q c w =
+          record { counted = c .0; known = w; sizes = sizes-checked F k (appended F s p) (sizes-appended F k s p small h few (or-right (ended s) (full s) e) (q .1 (h .known) .0)) }
+
+  bounded-run : (F : Flags) (k n : ℕ) (s : State) → k ≤ 256 → Bounded F k s → Bounded F k (run n F s)
+  unfolding steps
+  bounded-run F k zero s small h = h
+  bounded-run F k (suc n) s small h = go (stops s) refl (bounded-run F k n (step F s) small)
     where
-      e : fork F (initializeGraphIfNeeded F (s .graph)) (nodeAt t x .world) .worlds ≡ suc b
-      e = fork-worlds F (initializeGraphIfNeeded F (s .graph)) (nodeAt t x .world)
+      go : (b : Bool) → stops s ≡ b → (Bounded F k (step F s) → Bounded F k (run n F (step F s))) → Bounded F k (cond b s (run n F (step F s)))
+      go true e f = h
+      go false e f = f (bounded-step F k s small e h)
 
-      go : (s .graph .worlds ≡ 0) ⊎ (b ≡ s .graph .worlds) → fork F (initializeGraphIfNeeded F (s .graph)) (nodeAt t x .world) .worlds ≤ mostWorlds
-      go (inl d) = omega (arith, init-one F (s .graph) d, e)
-      go (inr d) = omega (arith, d, few, e)
-
-  rule-fits : (r : Rule ℕ) → Priest.Known m r → ResultFits F m (length t) (s .graph) (applyRule F s x more r)
-  unfolding applyRule applyPossibility applyNecessity visiting flat
-  rule-fits nothing q = here-fits (withMiddle []) tt
-  rule-fits (down fs) q = here-fits (withMiddle fs) (each-append (λ f. f < m) fs [] q tt)
-  rule-fits (split fs gs) q = here-fits (withLeftRight fs gs) (each-append (λ f. f < m) fs gs (q .0) (q .1))
-  rule-fits (asPossible f) q =
-      let g = fork F (initializeGraphIfNeeded F (s .graph)) (nodeAt t x .world) in
-      let v : Fork = record { node = x; world = b } in
-      let high = fork-worlds F (initializeGraphIfNeeded F (s .graph)) (nodeAt t x .world) in
+  sizes-begun : (F : Flags) (rs : List Rec) → WellFormed rs → Each P rs → Sizes F (length rs) (begun rs)
+  unfolding begun branchNodes emptyGraph
+  sizes-begun F rs wf fit =
+      let ns = branchNodes rs in
+      let fits = LabelFits (initializeGraphIfNeeded F emptyGraph .worlds) (length rs) (length (rooted ns)) in
       record {
-        squared = squared-fork F (initializeGraphIfNeeded F (s .graph)) (nodeAt t x .world);
-        worlds = fork-fits;
-        wider = omega (arith, high, init-worlds F g .1);
-        labels = (
-          record { world = omega (arith, high, init-worlds F g .1); formula = inr q; spawner = inr hx },
-          (
-            record { world = init-worlds F g .0; formula = inl refl; spawner = inr hx },
-            after-each-node (λ (a : Node). LabelFits (initializeGraphIfNeeded F g .worlds) m (length t) (label a)) (s .necessities) t g v (length t + 2) (each-map (gifts-fit g) (s .necessities) necessities-fit),
-          ),
-        );
-        necessities = after-each (NecessityFits m (length t)) t g v (λ n a. a) (s .necessities) necessities-fit;
-      }
-  rule-fits (asNecessary f) q =
-      let g = initializeGraphIfNeeded F (s .graph) in
-      let n : Necessity = record { formula = f; world = nodeAt t x .world; spawner = x; leaves = filter (λ leaf. elem x (path t leaf)) (leaves t); visited = [] } in
-      record {
-        squared = squared-init F (s .graph) (h .squared);
-        worlds = init-fits;
-        wider = init-worlds F g .1;
-        labels = reapply-each (λ (a : Node). LabelFits (initializeGraphIfNeeded F g .worlds) m (length t) (label a)) t g none (length t) n (gifts-fit g n (q, hx));
-        necessities = ((q, hx), necessities-fit);
+        wf = wf;
+        formulas = omega arith;
+        records = fit;
+        squared = squared-empty;
+        worlds = omega arith;
+        labels = rooted-every fits ns
+            (each-of-map (λ (n : Node). fits (label n)) (λ f. newNode nobody f 0) (marks rs)
+            (each-map {Q = λ f. fits (label (newNode nobody f 0))} (λ f (l : f < 0 + length rs). record { world = init-worlds F emptyGraph .0; formula = inr (omega (arith, l)); spawner = inl refl }) (marks rs) (marks-known rs 0)));
+        necessities = tt;
       }
 
--- the check for contradictions changes no label
-sizes-checked : (F : Flags) (k : ℕ) (s : State) → Sizes F k s → Sizes F k (checkForContradictions F s)
-unfolding checkedForContradictions
-sizes-checked F k s h =
-    let found = pairs (s .formulas) (s .nodes) (leaves (s .nodes)) in
-    let size = length-marks found (s .nodes) in
-    let fits = LabelFits (initializeGraphIfNeeded F (s .graph) .worlds) (length (s .formulas)) in
-    checked-both (Sizes F k) F s h
-    (record {
-      wf = h .wf;
-      formulas = h .formulas;
-      records = h .records;
-      squared = h .squared;
-      worlds = h .worlds;
-      labels = rw size (λ x q. subst (fits (length (s .nodes))) (sym (mark-keeps label (λ j n. refl) found (s .nodes) x)) (h .labels x q));
-      necessities = rw size (h .necessities);
-    })
+  -- every state of the run
+  pub run-bounded : (F : Flags) (rs : List Rec) (n : ℕ) → length rs ≤ 256 → WellFormed rs → Each P rs → Bounded F (length rs) (run n F (start F rs))
+  unfolding start
+  run-bounded F rs n small wf fit =
+      bounded-run F (length rs) n (start F rs) small
+      (record { counted = start-counted F rs; known = known-start F rs; sizes = sizes-checked F (length rs) (begun rs) (sizes-begun F rs wf fit) })
 
--- not full, so that the formulas are few
-few-formulas : (F : Flags) (k : ℕ) (s : State) → Bounded F k s → full s ≡ false → length (s .formulas) ≤ k + (mostIdentifiers + mostIdentifiers)
-unfolding full Counted
-few-formulas F k s h e = omega (arith, h .sizes .formulas, h .counted, ltb-false mostIdentifiers (length (s .nodes)) e)
+  -- 256 records and two for each of 512 steps: no more formulas than the tray holds
+  pub bounded-formulas : (F : Flags) (k : ℕ) (s : State) → Bounded F k s → k ≤ 256 → full s ≡ false → length (s .formulas) ≤ 1280
+  bounded-formulas F k s h small e = omega (arith, few-formulas F k s h e)
 
-rule-made : (F : Flags) (s : State) (x : ℕ) (more : List Rec) (r : Rule ℕ) → applyRule F s x more r .formulas ≡ more
-unfolding applyRule applyHere applyPossibility applyNecessity
-rule-made F s x more nothing = refl
-rule-made F s x more (down fs) = refl
-rule-made F s x more (split fs gs) = refl
-rule-made F s x more (asPossible f) = refl
-rule-made F s x more (asNecessary f) = refl
-
--- a rule's result has the formulas that its expansion makes
-pub apply-made : (F : Flags) (s : State) (x : ℕ) → apply F s x .formulas ≡ expansion (s .formulas) (nodeAt (s .nodes) x .formula) .made
-unfolding apply
-apply-made F s x = rule-made F s x _ _
-
--- all but the counts, which the step as a whole has
-sizes-appended : (F : Flags) (k : ℕ) (s : State) (p : Popped) → k ≤ 256 → Bounded F k s → s .graph .worlds < mostWorlds → full s ≡ false → p .node < length (s .nodes) →
-    Sizes F k (appended F s p)
-unfolding appended apply
-sizes-appended F k s p small h few e hx =
-    let f = nodeAt (s .nodes) (p .node) .formula in
-    let more = expansion (s .formulas) f .made in
-    let r = apply F s (p .node) in
-    let z = h .sizes in
-    let fits = rule-fits F k s z few (p .node) hx more (expansion (s .formulas) f .rule) (rule-known (s .formulas) (z .wf) f) in
-    let n = length (s .nodes) in
-    let u = s .nodes ++ r .nodes in
-    let t′ = appendLogicRuleResult u (p .others) (r .subtrees) .nodes in
-    let lu = length-append (s .nodes) (r .nodes) in
-    let lm = length-append (s .formulas) more in
-    let lt = ext-result (r .subtrees) u (p .others) .longer in
-    let b = initializeGraphIfNeeded F (r .graph) .worlds in
-    let m = length (s .formulas ++ more) in
-    let placed = appendLogicRuleResult u (p .others) (r .subtrees) in
-    subst
-    (λ (made : List Rec).
-    Sizes F k
-    (record { formulas = s .formulas ++ made; nodes = placed .nodes; graph = r .graph; necessities = r .necessities; waiting = placed .waiting; proved = s .proved; steps = suc (s .steps) }))
-    (sym (apply-made F s (p .node)))
-    (record {
-      wf = expansion-wf (s .formulas) (z .wf) f;
-      formulas = omega (arith, z .formulas, lm, made-two (s .formulas) f);
-      records = each-append RecordFits (s .formulas) more (z .records)
-          (each-map (λ (a : Rec) (q : Fit (length (s .formulas) + 2) a). record { kind = q .0; mark = omega (arith, q .1); left = omega (arith, q .2, few-formulas F k s h e, small); right = omega (arith, q .3, few-formulas F k s h e, small) }) more (made-fit (s .formulas) (z .wf) f));
-      squared = fits .squared;
-      worlds = fits .worlds;
-      labels = every-result (LabelFits b m (length t′)) (r .subtrees) u (p .others) n (n + length (r .nodes)) (apply-issued F s (p .node)) (omega (arith, lu))
-          (every-append (LabelFits b m (length t′)) (s .nodes) (r .nodes)
-          (λ x q. more-label (initializeGraphIfNeeded F (s .graph) .worlds) (length (s .formulas)) n b m (length t′) (fits .wider) (omega (arith, lm)) (omega (arith, lt, lu)) (label (nodeAt (s .nodes) x)) (z .labels x q))
-          (each-map (λ (a : Node) (q : LabelFits b m n (label a)). more-label b m n b m (length t′) (omega arith) (omega arith) (omega (arith, lt, lu)) (label a) q) (r .nodes) (fits .labels)));
-      necessities = each-map (λ (a : Necessity) (q : NecessityFits m n a). (q .0, omega (arith, q .1, lt, lu))) (r .necessities) (fits .necessities);
-    })
-
-bounded-step : (F : Flags) (k : ℕ) (s : State) → k ≤ 256 → stops s ≡ false → Bounded F k s → Bounded F k (step F s)
-unfolding stops ended step stepBy
-bounded-step F k s small e h = go (pop (s .formulas) (s .nodes) (s .waiting)) (pop-out (λ x. x < length (s .nodes)) (s .formulas) (s .nodes) (s .waiting)) (due F s busy (h .counted)) (known-step F s (h .known))
-  where
-    busy : ended s ≡ false
-    busy = or-left (ended s) (full s) e
-
-    few : s .graph .worlds < mostWorlds
-    few = leb-false mostWorlds (s .graph .worlds) (or-right (empty (s .waiting)) _ (or-right (s .proved) _ busy))
-
-    go : (o : Option Popped) → Out (λ x. x < length (s .nodes)) (s .waiting) o → Counted (stepBy F s o) × (stepBy F s o .steps ≡ suc (s .steps)) → Known (stepBy F s o .nodes) (stepBy F s o .waiting) →
-        Bounded F k (stepBy F s o)
-    go none q c w = h
-    go (some p) q c w =
-        record { counted = c .0; known = w; sizes = sizes-checked F k (appended F s p) (sizes-appended F k s p small h few (or-right (ended s) (full s) e) (q .1 (h .known) .0)) }
-
-bounded-run : (F : Flags) (k n : ℕ) (s : State) → k ≤ 256 → Bounded F k s → Bounded F k (run n F s)
-unfolding steps
-bounded-run F k zero s small h = h
-bounded-run F k (suc n) s small h = go (stops s) refl (bounded-run F k n (step F s) small)
-  where
-    go : (b : Bool) → stops s ≡ b → (Bounded F k (step F s) → Bounded F k (run n F (step F s))) → Bounded F k (cond b s (run n F (step F s)))
-    go true e f = h
-    go false e f = f (bounded-step F k s small e h)
-
-sizes-begun : (F : Flags) (rs : List Rec) → WellFormed rs → Each RecordFits rs → Sizes F (length rs) (begun rs)
-unfolding begun branchNodes emptyGraph
-sizes-begun F rs wf fit =
-    let ns = branchNodes rs in
-    let fits = LabelFits (initializeGraphIfNeeded F emptyGraph .worlds) (length rs) (length (rooted ns)) in
-    record {
-      wf = wf;
-      formulas = omega arith;
-      records = fit;
-      squared = squared-empty;
-      worlds = omega arith;
-      labels = rooted-every fits ns
-          (each-of-map (λ (n : Node). fits (label n)) (λ f. newNode nobody f 0) (marks rs)
-          (each-map {Q = λ f. fits (label (newNode nobody f 0))} (λ f (l : f < 0 + length rs). record { world = init-worlds F emptyGraph .0; formula = inr (omega (arith, l)); spawner = inl refl }) (marks rs) (marks-known rs 0)));
-      necessities = tt;
-    }
-
--- every state of the run
-pub run-bounded : (F : Flags) (rs : List Rec) (n : ℕ) → length rs ≤ 256 → WellFormed rs → Each RecordFits rs → Bounded F (length rs) (run n F (start F rs))
-unfolding start
-run-bounded F rs n small wf fit =
-    bounded-run F (length rs) n (start F rs) small
-    (record { counted = start-counted F rs; known = known-start F rs; sizes = sizes-checked F (length rs) (begun rs) (sizes-begun F rs wf fit) })
-
--- 256 records and two for each of 512 steps: no more formulas than the tray holds
-pub bounded-formulas : (F : Flags) (k : ℕ) (s : State) → Bounded F k s → k ≤ 256 → full s ≡ false → length (s .formulas) ≤ 1280
-bounded-formulas F k s h small e = omega (arith, few-formulas F k s h e)
-
-pub bounded-steps : (F : Flags) (k : ℕ) (s : State) → Bounded F k s → full s ≡ false → s .steps ≤ mostIdentifiers
-unfolding full Counted
-bounded-steps F k s h e = omega (arith, h .counted, ltb-false mostIdentifiers (length (s .nodes)) e)
+  pub bounded-steps : (F : Flags) (k : ℕ) (s : State) → Bounded F k s → full s ≡ false → s .steps ≤ mostIdentifiers
+  unfolding full Counted
+  bounded-steps F k s h e = omega (arith, h .counted, ltb-false mostIdentifiers (length (s .nodes)) e)

@@ -22,3 +22,4 @@ pub mod Linking
 pub mod Growing
 pub mod Made
 pub mod Fields
+pub mod Calls

@@ -1,0 +1,117 @@
+-- The whole call: what its outcome tells of the run, and what it leaves of the trays.
+use mathlib.Core.Path.{_≡_, refl, sym, ap, _∙_, subst}
+use mathlib.Core.Bool.{Bool, true, false, cond}
+use mathlib.Core.List.{List, [], _∷_, _++_}
+use mathlib.Core.Option.{Option, none, some}
+use Prim.Native.Nat.{ℕ, zero, suc, _<_, _≤_, _+_, _*_, _/_, _^_}
+use native.Mathlib.Omega.{arith}
+use native.Mathlib.Nat.{pow-suc, lt-of-lt-of-le}
+use lib.Pow.{pow-mono}
+use lib.ListN.{length, getD}
+use Rattle.definition.specs.Limits.{mostIdentifiers}
+use Rattle.definition.specs.Lists.{Each, below}
+use Rattle.definition.specs.Records.{Rec, numberOf, recordAt, decode, recAt}
+use Rattle.definition.specs.Flags.{Flags, flagsOf}
+use Rattle.definition.specs.Checks.{Lengths, Check, refused}
+use Rattle.definition.specs.Run.{State, full, stops, final}
+use Rattle.definition.specs.Trays.{Trays, rowNumber, traysOf, zeroTrays, laidOver}
+use Rattle.definition.specs.Call.{Outcome, Refused, Full, Ended, outcomeOfRun, outcomeBy, outcome, traysAfter, traysLeft, lengthsOf}
+use Rattle.definition.proofs.Lists.{each-both, each-any, each-of-map}
+use Rattle.definition.proofs.Accepted.{Accepted, accepted}
+use Rattle.definition.proofs.Bounds.{RecordFits, Bounded, run-bounded, bounded-formulas}
+use Rattle.definition.proofs.Fields.{Numbered, run-numbered}
+use Rattle.definition.proofs.TraysKept.{Sized, trays-sized, zero-sized, Kept, same-kept, laid-kept}
+use Rattle.definition.proofs.Sound.{not-full}
+
+-- an outcome that ended comes of a branch that no check refused, and is not full
+pub ended-of : (branch : List ℕ) (flags : ℕ) (lent : Lengths) (s : State) → outcome branch flags lent ≡ Ended s →
+    Accepted branch flags lent × (full (final (flagsOf flags) (decode branch)) ≡ false) × (final (flagsOf flags) (decode branch) ≡ s)
+unfolding outcome outcomeBy outcomeOfRun
+ended-of branch flags lent s e = go (refused branch flags lent) refl e
+  where
+    z : State
+    z = final (flagsOf flags) (decode branch)
+
+    ran : (b : Bool) → full z ≡ b → cond b Full (Ended z) ≡ Ended s → (full z ≡ false) × (z ≡ s)
+    ran true q d = let o : _≡_ {A = ℕ} 0 1 = cc in absurd (omega arith)
+    ran false q d = (q, cc)
+
+    go : (o : Option Check) → refused branch flags lent ≡ o → outcomeBy branch flags o ≡ Ended s → Accepted branch flags lent × (full z ≡ false) × (z ≡ s)
+    go (some c) q d = let o : _≡_ {A = ℕ} 0 1 = cc in absurd (omega arith)
+    go none q d = let k = ran (full z) refl d in (accepted branch flags lent q, k .0, k .1)
+
+byte : (bytes : List ℕ) → Each (λ b. b < 256) bytes → (i : ℕ) → getD bytes i 0 < 256
+byte [] h i = omega arith
+byte (b ∷ bs) h zero = h .0
+byte (b ∷ bs) h (suc i) = byte bs (h .1) i
+
+each-at : (P : Rec → Type 0) (rs : List Rec) → ((i : ℕ) → i < length rs → P (recAt rs i)) → Each P rs
+unfolding recAt
+each-at P [] h = tt
+each-at P (r ∷ rs) h = (h 0 (omega arith), each-at P rs (λ i l. h (suc i) (omega arith)))
+
+-- the records of an accepted branch of bytes fit their fields
+pub records-fit : (branch : List ℕ) (flags : ℕ) (lent : Lengths) → Each (λ b. b < 256) branch → Accepted branch flags lent → Each RecordFits (decode branch)
+unfolding decode recordAt
+records-fit branch flags lent h a =
+    let low = byte branch h in
+    each-both (λ (r : Rec) (p : (numberOf (r .kind) ≤ 8) × (r .mark ≤ 1)) (q : (r .left ≤ 65535) × (r .right ≤ 65535)). record { kind = p .0; mark = p .1; left = q .0; right = q .1 }) (decode branch)
+    (each-at (λ (r : Rec). (numberOf (r .kind) ≤ 8) × (r .mark ≤ 1)) (decode branch) (λ i l. (a .records i l .kind, a .records i l .mark)))
+    (each-of-map (λ (r : Rec). (r .left ≤ 65535) × (r .right ≤ 65535)) (recordAt branch) (below (length branch / 6))
+    (each-any (λ i. (recordAt branch i .left ≤ 65535) × (recordAt branch i .right ≤ 65535))
+    (λ i. (omega (arith, low (6 * i + 2), low (6 * i + 3)), omega (arith, low (6 * i + 4), low (6 * i + 5)))) (below (length branch / 6))))
+
+pub row-low : (row : List Bool) → rowNumber row < 2 ^ length row
+unfolding rowNumber
+row-low [] = omega arith
+row-low (b ∷ bs) = let e : 2 ^ suc (length bs) ≡ 2 ^ length bs * 2 = pow-suc 2 (length bs) in rw e (omega (arith, row-low bs, bit-low b))
+  where
+    bit-low : (c : Bool) → cond c 1 0 ≤ 1
+    bit-low true = omega arith
+    bit-low false = omega arith
+
+module _ (branch : List ℕ) (flags : ℕ) (lent : Lengths) (a : Accepted branch flags lent) (e : full (final (flagsOf flags) (decode branch)) ≡ false) where
+  abbrev F : Flags
+  F = flagsOf flags
+
+  abbrev rs : List Rec
+  rs = decode branch
+
+  abbrev z : State
+  z = final (flagsOf flags) (decode branch)
+
+  pub final-bounded : (P : Rec → Type 0) (ok : (r : Rec) → RecordFits r → P r) → Each P rs → Bounded P ok F (length rs) z
+  unfolding final
+  final-bounded P ok fit = run-bounded P ok F rs (suc mostIdentifiers) (a .few) (λ i l. a .records i l .links) fit
+
+  pub final-numbered : Numbered (z .nodes)
+  unfolding final
+  final-numbered = run-numbered stops (suc mostIdentifiers) F rs (a .marked) (omega (arith, not-full z e))
+
+  -- the trays of a run that ended have their lengths
+  pub final-sized : Sized (traysOf z)
+  final-sized =
+      let P : Rec → Type 0 = λ r. Unit {0} in
+      let h = final-bounded P (λ r k. tt) (each-any P (λ r. tt) rs) in
+      trays-sized z (not-full z e) (bounded-formulas P (λ r k. tt) F (length rs) z h (a .few) e) (omega (arith, h .sizes .squared .rows, h .sizes .worlds))
+
+-- every call keeps each tray's length, and what lies beyond what it writes
+pub trays-kept : (branch : List ℕ) (flags : ℕ) (lent : Trays) → Kept lent (traysLeft branch flags lent)
+unfolding traysLeft traysAfter outcome outcomeBy outcomeOfRun
+trays-kept branch flags lent = go (refused branch flags (lengthsOf lent)) refl
+  where
+    y : State
+    y = final (flagsOf flags) (decode branch)
+
+    run : Accepted branch flags (lengthsOf lent) → (b : Bool) → full y ≡ b → Kept lent (traysAfter (cond b Full (Ended y)) lent)
+    run a true q = laid-kept zeroTrays lent zero-sized (a .nodes) (a .formulas) (a .edges)
+    run a false q = laid-kept (traysOf y) lent (final-sized branch flags (lengthsOf lent) a q) (a .nodes) (a .formulas) (a .edges)
+
+    go : (o : Option Check) → refused branch flags (lengthsOf lent) ≡ o → Kept lent (traysAfter (outcomeBy branch flags o) lent)
+    go (some c) q = same-kept lent
+    go none q = run (accepted branch flags (lengthsOf lent) q) (full y) refl
+
+-- a refusal before the run writes nothing
+pub refused-keeps : (branch : List ℕ) (flags : ℕ) (lent : Trays) (c : Check) → outcome branch flags (lengthsOf lent) ≡ Refused c → traysLeft branch flags lent ≡ lent
+unfolding traysLeft traysAfter
+refused-keeps branch flags lent c e = ap (λ (o : Outcome). traysAfter o lent) e

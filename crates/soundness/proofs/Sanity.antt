@@ -1,0 +1,66 @@
+-- Demand 3 says something: every set of flags has models, and the proviso of flags 6 is needed.
+use mathlib.Core.Path.{_≡_, refl, sym}
+use mathlib.Core.Bool.{Bool, true, false}
+use mathlib.Core.List.{List, [], _∷_}
+use Prim.Native.Nat.{ℕ, _<_}
+use native.Mathlib.Omega.{arith}
+use lib.Dec.{eqb}
+use Rattle.definition.specs.Lists.{Each, concatMap}
+use Rattle.definition.specs.Records
+use Rattle.definition.specs.Records.{decode, marks}
+use Rattle.definition.specs.Formula
+use Rattle.definition.specs.Formula.{formAt}
+use Rattle.definition.specs.Flags.{Flags, flagsOf}
+use Rattle.definition.specs.Checks.{Lengths}
+use Rattle.definition.specs.Models.{Model, Has, truth}
+use Rattle.definition.specs.Trays.{Trays}
+use Rattle.definition.specs.Call.{Outcome, answerOf, answer, outcome, lengthsOf}
+use Rattle.definition.specs.Claim.{Proved}
+use Rattle.definition.specs.Cases.{deadEnd, lent, computed}
+use Rattle.definition.proofs.Lists.{true-false}
+use Rattle.soundness.specs.Claims.{ModelsExist, DeadEnd}
+
+-- one world that reaches itself
+pub models-exist : ModelsExist
+models-exist F value = (
+  record { size = 1; reach = λ a b. true; value = value },
+  record { reflexive = λ _ _ _. refl; symmetric = λ _ _ _ _ _ _. refl; transitive = λ _ _ _ _ _ _ _ _ _. refl },
+  omega arith,
+  λ _ _ _. (0, omega arith, refl),
+  refl,
+)
+
+-- the starred branch with flags 6
+abbrev pub branch : List ℕ
+branch = concatMap (λ r. r) deadEnd
+
+-- one world that reaches nothing, where r alone is true
+lonely : Model
+lonely = record { size = 1; reach = λ a b. false; value = λ w a. eqb a 2 }
+
+lonely-has : Has (flagsOf 6) lonely
+unfolding lonely flagsOf
+lonely-has = record { reflexive = λ e. true-false (sym e); symmetric = λ _ _ _ _ _ e. true-false (sym e); transitive = λ _ _ _ _ _ _ _ e. true-false (sym e) }
+
+lonely-size : 0 < lonely .size
+unfolding lonely
+lonely-size = omega arith
+
+lonely-holds : Each (λ f. truth lonely (formAt (decode branch) f) 0 ≡ true) (marks (decode branch))
+unfolding lonely truth decode Records.recordAt Records.kindOf Records.marksFrom Formula.formBy Formula.written Formula.formsAfter
+lonely-holds = (refl, (refl, (refl, tt)))
+
+proved-there : Proved (answerOf (computed branch 6 lent))
+unfolding computed answerOf
+proved-there = refl
+
+same-outcome : outcome branch 6 lent ≡ computed branch 6 lent
+unfolding computed
+same-outcome = refl
+
+pub dead-end : DeadEnd branch
+unfolding answer
+dead-end = (
+  λ t e. rw (e, same-outcome) proved-there,
+  (lonely, lonely-has, lonely-size, lonely-holds),
+)

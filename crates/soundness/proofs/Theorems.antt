@@ -1,0 +1,183 @@
+-- The claims of specs/Claims, proved from the laws of crates/definition.
+use mathlib.Core.Path.{_≡_, refl, sym, ap, _∙_, subst}
+use mathlib.Core.Bool.{Bool, true, false, cond, _||_}
+use mathlib.Core.List.{List, [], _∷_, _++_}
+use mathlib.Core.Option.{Option, none, some}
+use mathlib.Core.Logic.{_⊎_, inl, inr, _≢_}
+use Prim.Native.Nat.{ℕ, zero, suc, _<_, _≤_, _+_, _*_, _/_, _^_}
+use native.Mathlib.Omega.{arith}
+use native.Mathlib.Nat.{pow-suc, lt-of-lt-of-le}
+use lib.Dec.{leb, ltb}
+use lib.Pow.{pow-mono}
+use borrow.Author.Tests.{leb-true, ltb-true, ltb-false, lt-ltb}
+use lib.ListN.{length, getD}
+use Rattle.definition.specs.Limits.{mostRecords, mostIdentifiers, mostWorlds}
+use Rattle.definition.specs.Lists.{Each, empty, below}
+use Rattle.definition.specs.Records.{Rec, numberOf, recordAt, decode, recAt}
+use Rattle.definition.specs.Flags.{Flags, flagsOf}
+use Rattle.definition.specs.Checks.{Lengths, Check, refused}
+use Rattle.definition.specs.Tree.{Node, Place, Left, Middle, Right, Root, Unplaced, nodeAt}
+use Rattle.definition.specs.Graph.{initializeGraphIfNeeded}
+use Rattle.definition.specs.Subtree.{Targeted, appendLogicRuleResult}
+use Rattle.definition.specs.Run.{State, apply, step, ended, full, stops, steps, run, unlimitedRun, start, final}
+use Rattle.definition.specs.Trays.{Trays, rowNumber, traysOf, zeroTrays, laidOver}
+use Rattle.definition.specs.Call.{Outcome, Refused, Full, Ended, outcomeOfRun, outcomeBy, outcome, traysAfter, traysLeft, lengthsOf}
+use Rattle.definition.specs.Claim.{Demand3}
+use Rattle.definition.proofs.Lists.{or-cases, each-map, each-both, each-any, each-of-map}
+use Rattle.definition.proofs.Nodes.{Ext, ext-result}
+use Rattle.definition.proofs.Forms.{WellFormed}
+use Rattle.definition.proofs.Priest.{rule-is-priest}
+use Rattle.definition.proofs.Edges.{Squared, init-one, init-less}
+use Rattle.definition.proofs.Exact
+use Rattle.definition.proofs.Treed
+use Rattle.definition.proofs.Treed.{Treed, placed, childAt}
+use Rattle.definition.proofs.Growing.{reached-treed, reached-between}
+use Rattle.definition.proofs.Accepted.{Accepted}
+use Rattle.definition.proofs.Bounds
+use Rattle.definition.proofs.Fields
+use Rattle.definition.proofs.TraysKept
+use Rattle.definition.proofs.Calls
+use Rattle.definition.proofs.Sound
+use Rattle.soundness.specs.Claims.{RulesArePriests, Stops, StaysStopped, FullExactly, NotFullExactly, StepsGrow, PartsGrow, childOf, IsTree, TreesOfRun, TreesOfStep, NodeFits, RecordFits, Fits, RunsFit, Beyond, TraysKeep, TraysSized, RefusalsWriteNothing}
+
+pub demand-3 : Demand3
+demand-3 = Sound.demand-3
+
+pub rules-are-priests : RulesArePriests WellFormed
+rules-are-priests = rule-is-priest
+
+pub run-stops : Stops
+unfolding stops ended full
+run-stops F rs = go (or-cases (ended z) (full z) (Exact.final-stops F rs))
+  where
+    z : State
+    z = final F rs
+
+    go : (ended z ≡ true) ⊎ (full z ≡ true) →
+        (z .proved ≡ true) ⊎ ((empty (z .waiting) ≡ true) ⊎ ((mostWorlds ≤ z .graph .worlds) ⊎ (mostIdentifiers < length (z .nodes))))
+    go (inr q) = inr (inr (inr (ltb-true mostIdentifiers (length (z .nodes)) q)))
+    go (inl q) = first (or-cases (z .proved) _ q)
+      where
+        second : (empty (z .waiting) ≡ true) ⊎ (leb mostWorlds (z .graph .worlds) ≡ true) → (empty (z .waiting) ≡ true) ⊎ ((mostWorlds ≤ z .graph .worlds) ⊎ (mostIdentifiers < length (z .nodes)))
+        second (inl e) = inl e
+        second (inr e) = inr (inl (leb-true mostWorlds (z .graph .worlds) e))
+
+        first : (z .proved ≡ true) ⊎ ((empty (z .waiting) || leb mostWorlds (z .graph .worlds)) ≡ true) →
+            (z .proved ≡ true) ⊎ ((empty (z .waiting) ≡ true) ⊎ ((mostWorlds ≤ z .graph .worlds) ⊎ (mostIdentifiers < length (z .nodes))))
+        first (inl e) = inl e
+        first (inr e) = inr (second (or-cases (empty (z .waiting)) _ e))
+
+pub stays-stopped : StaysStopped
+stays-stopped = Exact.final-more
+
+pub full-exactly : FullExactly
+unfolding full
+full-exactly F rs = (
+  λ h. (suc mostIdentifiers, ltb-true mostIdentifiers _ (Exact.full-passes F rs h)),
+  λ h. Exact.passes-full F rs (h .0) (lt-ltb mostIdentifiers _ (h .1)),
+)
+
+pub not-full-exactly : NotFullExactly
+not-full-exactly = Exact.not-full-exact
+
+pub steps-grow : StepsGrow
+steps-grow = Exact.step-grows
+
+pub parts-grow : PartsGrow
+parts-grow before after t q = (ext-result before t q .longer, Exact.part-grows before after t q)
+
+child-at : (t : List Node) (y : ℕ) (p : Place) → childOf t y p ≡ childAt p (nodeAt t y .children)
+unfolding childOf childAt
+child-at t y Root = refl
+child-at t y Left = refl
+child-at t y Middle = refl
+child-at t y Right = refl
+child-at t y Unplaced = refl
+
+placed-in : (p : Place) → p ≢ Unplaced → placed p ≡ true
+unfolding placed
+placed-in Root h = refl
+placed-in Left h = refl
+placed-in Middle h = refl
+placed-in Right h = refl
+placed-in Unplaced h = absurd (h refl)
+
+is-tree : (t : List Node) → Treed t → IsTree t
+is-tree t r =
+    record {
+      root = (r .root, r .orphan);
+      down = λ y p h. let c = r .below y p (λ e. h (child-at t y p ∙ e)) in rw (child-at t y p) (c .parent, c .place);
+      up = λ x h n. child-at t _ (nodeAt t x .place) ∙ r .above x (placed-in (nodeAt t x .place) h) n .child;
+      distinct = Treed.leaves-distinct t r;
+      few = Treed.leaves-few t r;
+      unbounded = Treed.treed-unbounded t r;
+    }
+
+pub trees-of-run : TreesOfRun
+trees-of-run F rs n e small = is-tree _ (reached-treed F rs (unlimitedRun n F (start F rs)) (record { branch = e; ends = ended; bound = n; is = refl }) small)
+
+pub trees-of-step : TreesOfStep
+trees-of-step F rs n e x q before after d small =
+    is-tree _ (reached-between F rs (unlimitedRun n F (start F rs)) x q before after (record { branch = e; ends = ended; bound = n; is = refl }) d small .0)
+
+module _ (branch : List ℕ) (flags : ℕ) (lent : Lengths) (a : Accepted branch flags lent) (e : full (final (flagsOf flags) (decode branch)) ≡ false) where
+  abbrev F : Flags
+  F = flagsOf flags
+
+  abbrev rs : List Rec
+  rs = decode branch
+
+  abbrev z : State
+  z = final (flagsOf flags) (decode branch)
+
+  final-fits : Each Bounds.RecordFits rs → Fits z
+  final-fits fit =
+      let h = Calls.final-bounded branch flags lent a e Bounds.RecordFits (λ r k. k) fit in
+      let b = h .sizes in
+      let t = Calls.final-numbered branch flags lent a e in
+      record {
+        identifiers = Sound.not-full z e;
+        steps = Bounds.bounded-steps Bounds.RecordFits (λ r k. k) F (length rs) z h e;
+        formulas = Bounds.bounded-formulas Bounds.RecordFits (λ r k. k) F (length rs) z h (a .few) e;
+        worlds = b .worlds;
+        nodes = λ x l.
+            let k = b .labels x l in
+            record {
+              parent = Fields.parent-number (z .nodes) (t .treed) x;
+              world = omega (arith, k .world, worlds-low (b .worlds) (init-less F (z .graph)));
+              formula = k .formula;
+              spawner = k .spawner;
+              contrarian = t .marked x;
+            };
+        records = each-map (λ (r : Rec) (k : Bounds.RecordFits r). record { kind = k .kind; mark = k .mark; left = k .left; right = k .right }) (z .formulas) (b .records);
+        rows = each-map (λ (row : List Bool) (k : length row ≡ z .graph .worlds). row-fits row (omega (arith, k, b .worlds))) (z .graph .rows) (b .squared .each);
+      }
+    where
+      worlds-low : z .graph .worlds ≤ mostWorlds → (z .graph .worlds ≡ 0) ⊎ (initializeGraphIfNeeded F (z .graph) .worlds ≡ z .graph .worlds) → initializeGraphIfNeeded F (z .graph) .worlds ≤ mostWorlds
+      worlds-low h (inl d) = omega (arith, init-one F (z .graph) d)
+      worlds-low h (inr d) = omega (arith, h, d)
+
+      row-fits : (row : List Bool) → length row ≤ 25 → rowNumber row < 2 ^ 25
+      row-fits row h = lt-of-lt-of-le (Calls.row-low row) (pow-mono h)
+
+pub runs-fit : RunsFit
+runs-fit branch flags lent s bytes d =
+    let k = Calls.ended-of branch flags lent s d in
+    subst Fits (k .2) (final-fits branch flags lent (k .0) (k .1) (Calls.records-fit branch flags lent bytes (k .0)))
+
+beyond : (n : ℕ) (before after : List ℕ) → TraysKept.Beyond n before after → Beyond n before after
+beyond n before after h = record { long = h .long; rest = h .rest }
+
+pub trays-keep : TraysKeep
+trays-keep branch flags lent =
+    let k = Calls.trays-kept branch flags lent in
+    (beyond _ _ _ (k .nodes), beyond _ _ _ (k .formulas), beyond _ _ _ (k .edges))
+
+pub trays-sized : TraysSized
+trays-sized branch flags lent s d =
+    let k = Calls.ended-of branch flags lent s d in
+    let y = subst (λ (v : State). TraysKept.Sized (traysOf v)) (k .2) (Calls.final-sized branch flags lent (k .0) (k .1)) in
+    (y .nodes, y .formulas, y .edges)
+
+pub refusals-write-nothing : RefusalsWriteNothing
+refusals-write-nothing = Calls.refused-keeps

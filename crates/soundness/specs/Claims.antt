@@ -1,0 +1,146 @@
+-- What is proved of the definition, beside demand 3 (Rattle.definition.specs.Claim). It imports definitions only; proofs/ proves each claim.
+use mathlib.Core.Path.{_≡_}
+use mathlib.Core.Bool.{Bool, true, false}
+use mathlib.Core.List.{List, _++_}
+use mathlib.Core.Logic.{_⊎_, _↔_, _≢_}
+use Prim.Native.Nat.{ℕ, _<_, _≤_, _^_}
+use lib.ListN.{length, drop}
+use Rattle.definition.specs.Limits.{mostIdentifiers, mostWorlds, nodeTrayLength, formulaTrayLength, edgeTrayLength}
+use Rattle.definition.specs.Lists.{Each, empty}
+use Rattle.definition.specs.Records.{Rec, nobody, isNobody, decode, marks, numberOf}
+use Rattle.definition.specs.Formula.{formAt}
+use Rattle.definition.specs.Flags.{Flags, flagsOf}
+use Rattle.definition.specs.Checks.{Lengths, Check}
+use Rattle.definition.specs.Models.{Model, Has, truth}
+use Rattle.definition.specs.Tree.{Node, Place, Left, Middle, Right, Root, Unplaced, nodeAt, leavesBelow, upward, leaves, path}
+use Rattle.definition.specs.Rules.{expansion, writtenRule, priest}
+use Rattle.definition.specs.Subtree.{Targeted, appendLogicRuleResult}
+use Rattle.definition.specs.Run.{State, apply, step, full, run, unlimitedRun, start, final}
+use Rattle.definition.specs.Trays.{Trays, rowNumber, traysOf}
+use Rattle.definition.specs.Call.{Refused, Ended, outcome, answer, traysLeft, lengthsOf}
+use Rattle.definition.specs.Claim.{Proved, Reaching}
+use Rattle.definition.proofs.Issued.{Distinct}
+
+-- "whose rules are Priest's tableau rules": the rule that records choose, written out, is the row of Priest's table.
+-- Linked: every link of a record is to an earlier one, as check 8 leaves it
+abbrev pub RulesArePriests : (List Rec → Type 0) → Type 0
+RulesArePriests Linked =
+    (rs : List Rec) → Linked rs → (f : ℕ) → f < length rs → isNobody f ≡ false →
+    writtenRule (formAt (rs ++ expansion rs f .made)) (expansion rs f .rule) ≡ priest (formAt rs f)
+
+-- the run stops by itself: where it stops, it is proved, nothing waits, 25 worlds exist, or it is full; more steps change nothing
+abbrev pub Stops : Type 0
+Stops =
+    (F : Flags) (rs : List Rec) →
+    (final F rs .proved ≡ true) ⊎ ((empty (final F rs .waiting) ≡ true) ⊎ ((mostWorlds ≤ final F rs .graph .worlds) ⊎ (mostIdentifiers < length (final F rs .nodes))))
+
+abbrev pub StaysStopped : Type 0
+StaysStopped = (k : ℕ) (F : Flags) (rs : List Rec) → mostIdentifiers < k → run k F (start F rs) ≡ final F rs
+
+-- "full" comes exactly when the paper's own loop passes 512 identifiers; otherwise the two runs are one
+abbrev pub FullExactly : Type 0
+FullExactly = (F : Flags) (rs : List Rec) → (full (final F rs) ≡ true) ↔ ((n : ℕ) × (mostIdentifiers < length (unlimitedRun n F (start F rs) .nodes)))
+
+abbrev pub NotFullExactly : Type 0
+NotFullExactly = (k : ℕ) (F : Flags) (rs : List Rec) → mostIdentifiers < k → full (final F rs) ≡ false → unlimitedRun k F (start F rs) ≡ final F rs
+
+-- no step, and no part of a step, takes an identifier back
+abbrev pub StepsGrow : Type 0
+StepsGrow = (F : Flags) (s : State) → length (s .nodes) ≤ length (step F s .nodes)
+
+abbrev pub PartsGrow : Type 0
+PartsGrow =
+    (before after : List Targeted) (t : List Node) (q : List ℕ) →
+    (length t ≤ length (appendLogicRuleResult t q before .nodes)) × (length (appendLogicRuleResult t q before .nodes) ≤ length (appendLogicRuleResult t q (before ++ after) .nodes))
+
+-- the child at a place
+unfoldable pub childOf : List Node → ℕ → Place → ℕ
+childOf t y Root = nobody
+childOf t y Left = nodeAt t y .children .left
+childOf t y Middle = nodeAt t y .children .middle
+childOf t y Right = nodeAt t y .children .right
+childOf t y Unplaced = nobody
+
+-- the tree is a tree, its leaves are distinct and no more than its nodes, and no bound of depth decides
+pub record IsTree (t : List Node) : Type 0 where
+  pub root : (nodeAt t 0 .place ≡ Root) × (nodeAt t 0 .parent ≡ nobody)
+  pub down : (y : ℕ) (p : Place) → childOf t y p ≢ nobody → (nodeAt t (childOf t y p) .parent ≡ y) × (nodeAt t (childOf t y p) .place ≡ p)
+  pub up : (x : ℕ) → nodeAt t x .place ≢ Unplaced → x ≢ 0 → childOf t (nodeAt t x .parent) (nodeAt t x .place) ≡ x
+  pub distinct : Distinct (leaves t)
+  pub few : length (leaves t) ≤ length t
+  pub unbounded : (k : ℕ) → length t ≤ k → (leavesBelow k t 0 ≡ leaves t) × Each (λ l. upward k t l ≡ path t l) (leaves t)
+
+-- at every state of a run, and between two placings of one step
+abbrev pub TreesOfRun : Type 0
+TreesOfRun = (F : Flags) (rs : List Rec) (n : ℕ) → empty (marks rs) ≡ false → length (unlimitedRun n F (start F rs) .nodes) ≤ nobody → IsTree (unlimitedRun n F (start F rs) .nodes)
+
+abbrev pub TreesOfStep : Type 0
+TreesOfStep =
+    (F : Flags) (rs : List Rec) (n : ℕ) → empty (marks rs) ≡ false → let s = unlimitedRun n F (start F rs) in
+    (x : ℕ) (q : List ℕ) (before after : List Targeted) → apply F s x .subtrees ≡ before ++ after →
+    length (appendLogicRuleResult (s .nodes ++ apply F s x .nodes) q before .nodes) ≤ nobody → IsTree (appendLogicRuleResult (s .nodes ++ apply F s x .nodes) q before .nodes)
+
+-- none, or below n
+abbrev pub Number : ℕ → ℕ → Type 0
+Number n x = (x ≡ nobody) ⊎ (x < n)
+
+-- a node of a run with n identifiers and m formulas
+pub record NodeFits (n m : ℕ) (x : Node) : Type 0 where
+  pub parent : Number n (x .parent)
+  pub world : x .world < mostWorlds
+  pub formula : Number m (x .formula)
+  pub spawner : Number n (x .spawner)
+  pub contrarian : Number n (x .contrarian)
+
+pub record RecordFits (r : Rec) : Type 0 where
+  pub kind : numberOf (r .kind) ≤ 8
+  pub mark : r .mark ≤ 1
+  pub left : r .left ≤ 65535
+  pub right : r .right ≤ 65535
+
+-- the bounds of a run that ended, with every number that the trays hold
+pub record Fits (s : State) : Type 0 where
+  pub identifiers : length (s .nodes) ≤ mostIdentifiers
+  pub steps : s .steps ≤ mostIdentifiers
+  pub formulas : length (s .formulas) ≤ 1280
+  pub worlds : s .graph .worlds ≤ mostWorlds
+  pub nodes : (x : ℕ) → x < length (s .nodes) → NodeFits (length (s .nodes)) (length (s .formulas)) (nodeAt (s .nodes) x)
+  pub records : Each RecordFits (s .formulas)
+  pub rows : Each (λ (row : List Bool). rowNumber row < 2 ^ 25) (s .graph .rows)
+
+abbrev pub RunsFit : Type 0
+RunsFit =
+    (branch : List ℕ) (flags : ℕ) (lent : Lengths) (s : State) → Each (λ b. b < 256) branch → outcome branch flags lent ≡ Ended s → Fits s
+
+-- a tray keeps its length, and what lies beyond its first n numbers
+pub record Beyond (n : ℕ) (before after : List ℕ) : Type 0 where
+  pub long : length after ≡ length before
+  pub rest : drop n after ≡ drop n before
+
+-- "Only these lengths are written; anything beyond stays"
+abbrev pub TraysKeep : Type 0
+TraysKeep =
+    (branch : List ℕ) (flags : ℕ) (lent : Trays) →
+    Beyond nodeTrayLength (lent .nodes) (traysLeft branch flags lent .nodes) ×
+    Beyond formulaTrayLength (lent .formulas) (traysLeft branch flags lent .formulas) ×
+    Beyond edgeTrayLength (lent .edges) (traysLeft branch flags lent .edges)
+
+-- what a run that ended writes has exactly the three lengths
+abbrev pub TraysSized : Type 0
+TraysSized =
+    (branch : List ℕ) (flags : ℕ) (lent : Lengths) (s : State) → outcome branch flags lent ≡ Ended s →
+    (length (traysOf s .nodes) ≡ nodeTrayLength) × (length (traysOf s .formulas) ≡ formulaTrayLength) × (length (traysOf s .edges) ≡ edgeTrayLength)
+
+-- "Refusals 1 to 11 write nothing"
+abbrev pub RefusalsWriteNothing : Type 0
+RefusalsWriteNothing = (branch : List ℕ) (flags : ℕ) (lent : Trays) (c : Check) → outcome branch flags (lengthsOf lent) ≡ Refused c → traysLeft branch flags lent ≡ lent
+
+-- demand 3 is not empty: every set of flags has a model with a world of which it speaks
+abbrev pub ModelsExist : Type 0
+ModelsExist = (F : Flags) (value : ℕ → ℕ → Bool) → (M : Model) × Has F M × (0 < M .size) × Reaching F M 0 × (M .value ≡ value)
+
+-- and its second half is needed: the starred branch with flags 6 is proved, and true at a world that reaches nothing
+abbrev pub DeadEnd : List ℕ → Type 0
+DeadEnd branch =
+    ((lent : Trays) → lengthsOf lent ≡ record { nodes = nodeTrayLength; formulas = formulaTrayLength; edges = edgeTrayLength } → Proved (answer branch 6 lent)) ×
+    ((M : Model) × Has (flagsOf 6) M × (0 < M .size) × Each (λ f. truth M (formAt (decode branch) f) 0 ≡ true) (marks (decode branch)))
