@@ -1,19 +1,19 @@
 -- What the checks leave: a branch that no check refuses.
-use mathlib.Core.Path.{_≡_, refl, sym, ap, _∙_, subst}
-use mathlib.Core.Bool.{Bool, true, false, cond, not, _&&_, _||_}
-use mathlib.Core.List.{List, [], _∷_, _++_, map}
-use mathlib.Core.Option.{Option, none, some}
-use Prim.Native.Nat.{ℕ, zero, suc, _<_, _≤_, _+_, _/_, _%_}
+use mathlib.Core.Path.{_≡_, refl, _∙_, subst}
+use mathlib.Core.Bool.{Bool, true, false, cond, _||_}
+use mathlib.Core.List.{List, [], _∷_, _++_}
+use mathlib.Core.Option.{none, some}
+use Prim.Native.Nat.{ℕ, zero, suc, _<_, _≤_, _+_, _/_}
 use native.Mathlib.Omega.{arith}
 use native.Mathlib.Nat.{add-zero}
-use lib.Dec.{eqb, ltb, leb}
+use lib.Dec.{ltb, leb}
 use borrow.Author.Tests.{ltb-false, leb-false}
-use lib.ListN.{length, getD, length-append, length-map}
-use Rattle.definition.specs.Limits.{mostRecords, mostSize, mostMarked, nodeTrayLength, formulaTrayLength, edgeTrayLength}
+use lib.ListN.{length, length-append, length-map}
+use Rattle.definition.specs.Limits.{mostRecords, mostMarked, nodeTrayLength, formulaTrayLength, edgeTrayLength}
 use Rattle.definition.specs.Lists.{Each, any, find, empty, below}
-use Rattle.definition.specs.Records.{Rec, made, Unknown, numberOf, links, recordAt, decode, recAt, marks}
+use Rattle.definition.specs.Records.{Rec, numberOf, links, recordAt, decode, recAt, marks}
 use Rattle.definition.specs.Checks.{Lengths, Check, expandedSize, strayField, recordChecks, checks, refused}
-use Rattle.definition.proofs.Lists.{true-false, or-left, or-right, each-map, each-left, each-right}
+use Rattle.definition.proofs.Lists.{or-left, or-right, each-map, each-left, each-right}
 use Rattle.definition.proofs.Issued.{length-from}
 
 find-none : {A : Type 0} (p : A → Bool) (xs : List A) → find p xs ≡ none → Each (λ x. p x ≡ false) xs

@@ -1,12 +1,11 @@
 -- The bounds of a run with at most mostIdentifiers: worlds, formulas, and every number that a node or a record holds.
-use mathlib.Core.Path.{_≡_, refl, sym, ap, _∙_, subst}
-use mathlib.Core.Bool.{Bool, true, false, cond, _||_}
-use mathlib.Core.List.{List, [], _∷_, _++_, map}
+use mathlib.Core.Path.{_≡_, refl, sym, subst}
+use mathlib.Core.Bool.{Bool, true, false, cond}
+use mathlib.Core.List.{List, [], _++_}
 use mathlib.Core.Option.{Option, none, some}
 use mathlib.Core.Logic.{_⊎_, inl, inr}
 use Prim.Native.Nat.{ℕ, zero, suc, _<_, _≤_, _+_}
 use native.Mathlib.Omega.{arith}
-use lib.Dec.{leb}
 use borrow.Author.Tests.{leb-false, ltb-false}
 use lib.ListN.{length, length-append}
 use Rattle.definition.specs.Limits.{mostIdentifiers, mostWorlds}
@@ -17,12 +16,12 @@ use Rattle.definition.specs.Graph.{Graph, edge, emptyGraph, initializeGr
 use Rattle.definition.specs.Tree.{Node, newNode, nodeAt, leaves, path}
 use Rattle.definition.specs.Rules.{Rule, nothing, down, split, asPossible, asNecessary, expansion}
 use Rattle.definition.specs.Subtree.{Subtree, withMiddle, withLeftRight, flat, turned, appendLogicRuleResult}
-use Rattle.definition.specs.Modality.{Necessity, Fork, unvisited, visiting}
+use Rattle.definition.specs.Modality.{Necessity, unvisited, visiting}
 use Rattle.definition.specs.Queue.{Popped, pop}
 use Rattle.definition.specs.Contradiction.{pairs}
-use Rattle.definition.specs.Run.{State, LogicRuleResult, applyHere, applyPossibility, applyNecessity, applyRule, apply, appended, checkedForContradictions, checkForContradictions, stepBy, step, ended, full, stops, steps, run, branchNodes, rooted, begun, start, final}
-use Rattle.definition.proofs.Lists.{true-false, cond-both, or-left, or-right, each-map, each-append, each-any, each-of-map}
-use Rattle.definition.proofs.Nodes.{Label, label, Ext, ext-result, mark-keeps, length-marks}
+use Rattle.definition.specs.Run.{State, LogicRuleResult, applyHere, applyPossibility, applyNecessity, applyRule, apply, appended, checkedForContradictions, checkForContradictions, stepBy, step, ended, full, stops, steps, run, branchNodes, rooted, begun, start}
+use Rattle.definition.proofs.Lists.{or-left, or-right, each-map, each-append, each-of-map}
+use Rattle.definition.proofs.Nodes.{Label, label, ext-result, mark-keeps, length-marks}
 use Rattle.definition.proofs.Every.{Every, every-append, every-result}
 use Rattle.definition.proofs.Issued.{each-turned, apply-issued}
 use Rattle.definition.proofs.Count.{Counted, Known, Out, pop-out, checked-both, due, known-step, known-start, start-counted}
@@ -138,7 +137,6 @@ module _ (P : Rec → Type 0) (ok : (r : Rec) → RecordFits r → P r) where
     rule-fits (split fs gs) q = here-fits (withLeftRight fs gs) (each-append (λ f. f < m) fs gs (q .0) (q .1))
     rule-fits (asPossible f) q =
         let g = fork F (initializeGraphIfNeeded F (s .graph)) (nodeAt t x .world) in
-        let v : Fork = record { node = x; world = b } in
         let high = fork-worlds F (initializeGraphIfNeeded F (s .graph)) (nodeAt t x .world) in
         record {
           squared = squared-fork F (initializeGraphIfNeeded F (s .graph)) (nodeAt t x .world);
@@ -148,10 +146,10 @@ module _ (P : Rec → Type 0) (ok : (r : Rec) → RecordFits r → P r) where
             record { world = omega (arith, high, init-worlds F g .1); formula = inr q; spawner = inr hx },
             (
               record { world = init-worlds F g .0; formula = inl refl; spawner = inr hx },
-              after-each-node (λ (a : Node). LabelFits (initializeGraphIfNeeded F g .worlds) m (length t) (label a)) (s .necessities) t g v (length t + 2) (each-map (gifts-fit g) (s .necessities) necessities-fit),
+              after-each-node (λ (a : Node). LabelFits (initializeGraphIfNeeded F g .worlds) m (length t) (label a)) (s .necessities) t g _ (length t + 2) (each-map (gifts-fit g) (s .necessities) necessities-fit),
             ),
           );
-          necessities = after-each (NecessityFits m (length t)) t g v (λ n a. a) (s .necessities) necessities-fit;
+          necessities = after-each (NecessityFits m (length t)) t g _ (λ n a. a) (s .necessities) necessities-fit;
         }
     rule-fits (asNecessary f) q =
         let g = initializeGraphIfNeeded F (s .graph) in

@@ -1,12 +1,11 @@
 -- The whole call: what its outcome tells of the run, and what it leaves of the trays.
-use mathlib.Core.Path.{_≡_, refl, sym, ap, _∙_, subst}
+use mathlib.Core.Path.{_≡_, refl, ap}
 use mathlib.Core.Bool.{Bool, true, false, cond}
-use mathlib.Core.List.{List, [], _∷_, _++_}
+use mathlib.Core.List.{List, [], _∷_}
 use mathlib.Core.Option.{Option, none, some}
 use Prim.Native.Nat.{ℕ, zero, suc, _<_, _≤_, _+_, _*_, _/_, _^_}
 use native.Mathlib.Omega.{arith}
-use native.Mathlib.Nat.{pow-suc, lt-of-lt-of-le}
-use lib.Pow.{pow-mono}
+use native.Mathlib.Nat.{pow-suc}
 use lib.ListN.{length, getD}
 use Rattle.definition.specs.Limits.{mostIdentifiers}
 use Rattle.definition.specs.Lists.{Each, below}
@@ -14,7 +13,7 @@ use Rattle.definition.specs.Records.{Rec, numberOf, recordAt, decode, re
 use Rattle.definition.specs.Flags.{Flags, flagsOf}
 use Rattle.definition.specs.Checks.{Lengths, Check, refused}
 use Rattle.definition.specs.Run.{State, full, stops, final}
-use Rattle.definition.specs.Trays.{Trays, rowNumber, traysOf, zeroTrays, laidOver}
+use Rattle.definition.specs.Trays.{Trays, rowNumber, traysOf, zeroTrays}
 use Rattle.definition.specs.Call.{Outcome, Refused, Full, Ended, outcomeOfRun, outcomeBy, outcome, traysAfter, traysLeft, lengthsOf}
 use Rattle.definition.proofs.Lists.{each-both, each-any, each-of-map}
 use Rattle.definition.proofs.Accepted.{Accepted, accepted}

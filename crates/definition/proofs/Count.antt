@@ -1,25 +1,25 @@
 -- Each identifier waits or was taken by a step: steps and waiting nodes together are as many as identifiers.
 use mathlib.Core.Path.{_≡_, refl, sym, ap, _∙_, subst}
-use mathlib.Core.Bool.{Bool, true, false, cond, _||_}
+use mathlib.Core.Bool.{Bool, true, false, cond}
 use mathlib.Core.List.{List, [], _∷_, _++_, map, reverse, append-assoc}
 use mathlib.Core.Option.{Option, none, some}
-use mathlib.Core.Logic.{_⊎_, inl, inr, _≢_}
+use mathlib.Core.Logic.{_≢_}
 use Prim.Native.Nat.{ℕ, zero, suc, _<_, _≤_, _+_}
 use native.Mathlib.Omega.{arith}
 use lib.Dec.{eqb, leb}
-use borrow.Author.Tests.{eqb-true, eqb-false, eq-eqb, leb-true}
+use borrow.Author.Tests.{eqb-false, leb-true}
 use lib.ListN.{length, getD, length-append, length-map, length-reverse}
 use Rattle.definition.specs.Lists.{Each, all, empty, orElse, upFrom, below, filter}
-use Rattle.definition.specs.Records.{Kind, Rec, Non, is, numberOf, recAt, formulaOf, marks, nobody}
+use Rattle.definition.specs.Records.{Rec, Non, is, numberOf, recAt, formulaOf, nobody}
 use Rattle.definition.specs.Flags.{Flags}
 use Rattle.definition.specs.Tree.{Node, Root, Middle, nodeAt, placedBelow, leaves}
 use Rattle.definition.specs.Subtree.{Subtree, Targeted, flat, turned, numbered, copied, pushSubtree, appendSubtreeOnLeaf, appendCopies, appendOn, takes, appendSubtree, appendLogicRuleResult}
 use Rattle.definition.specs.Queue.{priorities, prioritiesOfNon, priorityOf, getNodePriority, Popped, popFirst, popClass, pop}
 use Rattle.definition.specs.Contradiction.{pairs}
-use Rattle.definition.specs.Run.{State, apply, checkedForContradictions, checkForContradictions, appended, stepBy, step, ended, stops, rooted, branchNodes, begun, start}
+use Rattle.definition.specs.Run.{State, apply, checkedForContradictions, checkForContradictions, appended, stepBy, step, ended, rooted, branchNodes, begun, start}
 use Rattle.definition.proofs.Lists.{true-false, and-left, and-right, or-left, or-right, cond-both, each-map, each-append, each-reverse, below-each}
-use Rattle.definition.proofs.Nodes.{length-chain, length-leaf, length-marks, Ext, ext-subtree}
-use Rattle.definition.proofs.Issued.{Ids, ids-numbered, Issued, issued-le, flat-numbered, length-from, length-turned, each-turned, apply-issued}
+use Rattle.definition.proofs.Nodes.{length-chain, length-leaf, length-marks, ext-subtree}
+use Rattle.definition.proofs.Issued.{ids-numbered, Issued, issued-le, flat-numbered, length-from, length-turned, each-turned, apply-issued}
 
 pub length-push : (q : List ℕ) (s : Subtree) → length (pushSubtree q s) ≡ length q + length (flat s)
 unfolding pushSubtree

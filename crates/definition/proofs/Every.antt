@@ -1,20 +1,20 @@
 -- What holds of every node's label: placing brings no label that was not there.
-use mathlib.Core.Path.{_≡_, refl, sym, ap, _∙_, subst}
-use mathlib.Core.Bool.{Bool, true, false}
+use mathlib.Core.Path.{_≡_, ap, _∙_}
+use mathlib.Core.Bool.{true, false}
 use mathlib.Core.List.{List, [], _∷_, _++_, map}
 use mathlib.Core.Logic.{_⊎_, inl, inr}
 use Prim.Native.Nat.{ℕ, zero, suc, _<_, _≤_, _+_, _-_}
 use native.Mathlib.Omega.{arith}
 use lib.Dec.{ltb}
 use borrow.Author.Tests.{ltb-true, ltb-false}
-use lib.ListN.{length, getD, length-append}
+use lib.ListN.{length, length-append}
 use lib.Seq.{getD-append-add}
 use Rattle.definition.specs.Lists.{Each, filter}
 use Rattle.definition.specs.Tree.{Node, nodeAt, leaves}
 use Rattle.definition.specs.Subtree.{Subtree, Targeted, flat, numbered, copied, appendSubtreeOnLeaf, pushSubtree, appendCopies, appendOn, takes, appendSubtree, appendLogicRuleResult}
 use Rattle.definition.proofs.Lists.{either, each-map, each-of-map}
-use Rattle.definition.proofs.Nodes.{blank, Label, label, label-stable, node-append, leaf-keeps, length-leaf, Ext, ext-append, ext-leaf, ext-subtree}
-use Rattle.definition.proofs.Issued.{Ids, Issued, issued-le}
+use Rattle.definition.proofs.Nodes.{blank, Label, label, label-stable, node-append, leaf-keeps, length-leaf, ext-append, ext-leaf, ext-subtree}
+use Rattle.definition.proofs.Issued.{Issued, issued-le}
 
 -- a node of an appended list
 pub node-after : (t ns : List Node) (x : ℕ) → length t ≤ x → nodeAt (t ++ ns) x ≡ nodeAt ns (x - length t)

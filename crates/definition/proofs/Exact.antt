@@ -1,23 +1,20 @@
 -- The run stops by itself, and "full" is told exactly: what only makes the definition total decides nothing.
-use mathlib.Core.Path.{_≡_, refl, sym, ap, _∙_, subst}
+use mathlib.Core.Path.{_≡_, refl, sym, ap, _∙_}
 use mathlib.Core.Bool.{Bool, true, false, cond, _||_}
 use mathlib.Core.List.{List, [], _∷_, _++_}
-use mathlib.Core.Option.{Option, none, some}
 use mathlib.Core.Logic.{_⊎_, inl, inr}
 use Prim.Native.Nat.{ℕ, zero, suc, _<_, _≤_, _+_}
 use native.Mathlib.Omega.{arith}
-use lib.Dec.{ltb}
 use borrow.Author.Tests.{lt-ltb, ltb-true}
-use lib.ListN.{length, length-append}
+use lib.ListN.{length}
 use Rattle.definition.specs.Limits.{mostIdentifiers}
 use Rattle.definition.specs.Records.{Rec}
 use Rattle.definition.specs.Flags.{Flags}
 use Rattle.definition.specs.Tree.{Node}
 use Rattle.definition.specs.Subtree.{Targeted, appendSubtree, appendLogicRuleResult}
-use Rattle.definition.specs.Queue.{Popped, pop}
-use Rattle.definition.specs.Run.{State, apply, checkForContradictions, appended, stepBy, step, ended, full, steps, stops, run, unlimitedRun, start, final}
-use Rattle.definition.proofs.Lists.{true-false, either, cond-both, or-left, or-right, or-true}
-use Rattle.definition.proofs.Nodes.{Ext, ext-result}
+use Rattle.definition.specs.Run.{State, step, ended, full, steps, stops, run, unlimitedRun, start, final}
+use Rattle.definition.proofs.Lists.{true-false, or-left, or-true}
+use Rattle.definition.proofs.Nodes.{ext-result}
 use Rattle.definition.proofs.Growing.{step-keeps, steps-keep}
 use Rattle.definition.proofs.Count.{Counted, due, start-counted}
 

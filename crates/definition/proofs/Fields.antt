@@ -4,7 +4,7 @@ use mathlib.Core.Bool.{Bool, true, false, cond}
 use mathlib.Core.List.{List, [], _∷_, _++_, map, reverse, append-nil}
 use mathlib.Core.Option.{Option, none, some, Option·map}
 use mathlib.Core.Logic.{_⊎_, inl, inr, ⊎-elim, _≢_}
-use Prim.Native.Nat.{ℕ, zero, suc, _<_, _≤_, _+_, _-_}
+use Prim.Native.Nat.{ℕ, zero, suc, _<_, _≤_, _-_}
 use native.Mathlib.Omega.{arith}
 use lib.Dec.{ltb}
 use borrow.Author.Tests.{ltb-true, ltb-false}
@@ -19,12 +19,12 @@ use Rattle.definition.specs.Queue.{Popped, pop}
 use Rattle.definition.specs.Contradiction.{areNodesContradictory, Pair, pair, getContradictoryNodeIds, mark, markAll, pairs}
 use Rattle.definition.specs.Run.{State, apply, appended, checkedForContradictions, checkForContradictions, stepBy, step, steps, branchNodes, rooted, begun, start}
 use Rattle.definition.proofs.Lists.{either, cond-both, alike, each-map, each-of-map, each-any, each-reverse}
-use Rattle.definition.proofs.Nodes.{blank, change-other, change-same, length-change, node-append, Stable, chain-keeps, leaf-keeps, length-leaf, length-marks, Ext, ext-subtree}
+use Rattle.definition.proofs.Nodes.{change-other, change-same, node-append, Stable, chain-keeps, leaf-keeps, length-marks}
 use Rattle.definition.proofs.Every.{node-after}
 use Rattle.definition.proofs.Made.{apply-each}
 use Rattle.definition.proofs.Count.{checked-both, checked-length}
 use Rattle.definition.proofs.Treed.{Treed, Bare, spots, in-range, parent-in, path-distinct, leaves-bare}
-use Rattle.definition.proofs.Growing.{Keeps, step-keeps, steps-keep, begun-treed, start-treed, between-keeps}
+use Rattle.definition.proofs.Growing.{step-keeps, steps-keep, begun-treed, start-treed, between-keeps}
 
 -- none, or below n
 abbrev pub Number : ℕ → ℕ → Type 0

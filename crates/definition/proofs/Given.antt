@@ -1,7 +1,7 @@
 -- What stored necessities give: on the paths of the set, true formulas at worlds that occur.
-use mathlib.Core.Path.{_≡_, refl, sym, ap, _∙_, subst}
-use mathlib.Core.Bool.{Bool, true, false, cond, _&&_, _||_}
-use mathlib.Core.List.{List, [], _∷_, _++_, map, append-assoc, append-nil}
+use mathlib.Core.Path.{_≡_, refl, sym, subst}
+use mathlib.Core.Bool.{Bool, true, false, cond}
+use mathlib.Core.List.{List, [], _∷_, _++_, map, append-assoc}
 use mathlib.Core.Option.{Option, none, some}
 use mathlib.Core.Logic.{_⊎_, inl, inr}
 use Prim.Native.Nat.{ℕ, zero, suc, _<_, _≤_, _+_}
@@ -17,7 +17,7 @@ use Rattle.definition.specs.Subtree.{Targeted, withMiddle}
 use Rattle.definition.specs.Modality.{Necessity, Fork, Made, runsThrough, forkedOn, occurs, unvisited, giveOn, leavesOf, reapplyNecessity, isReapplied, reapplyIfOnPath, visiting, reapplyNecessityAfterPossibility, necessitiesAfterPossibility}
 use Rattle.definition.proofs.Lists.{true-false, and-left, and-right, or-cases, either, cond-both, Some, each-map, each-append, each-filter, filter-each, each-of-map, each-reverse, some-each, some-pick, any-some, elem-each, below-each}
 use Rattle.definition.proofs.Nodes.{blank, Ext, ext-append}
-use Rattle.definition.proofs.Open.{Whole, path-in, path-elem, Chain, no-chain, middle-chain, Side, side-map}
+use Rattle.definition.proofs.Open.{Whole, path-in, path-elem, no-chain, middle-chain, Side, side-map}
 use Rattle.definition.proofs.Placing.{OkNode, Fine, fine-ext, amid-fine}
 
 -- a world that occurs on a node of the set

@@ -10,15 +10,12 @@ use lib.ListN.{length, length-append, length-map, List·getD-eq-default}
 use Rattle.definition.specs.Lists.{Each, filter, upFrom, empty}
 use Rattle.definition.specs.Records.{Rec, marks, nobody}
 use Rattle.definition.specs.Flags.{Flags}
-use Rattle.definition.specs.Graph.{Graph}
-use Rattle.definition.specs.Tree.{Place, Root, Middle, Node, childless, isLeaf, newNode, nodeAt, placedBelow, change, markedAgainst, linkChain, leaves, path}
-use Rattle.definition.specs.Rules.{Rule, nothing, down, split, asPossible, asNecessary, expansion}
-use Rattle.definition.specs.Modality.{Necessity, Fork, Made, occurs, giveOn, unvisited, leavesOf, reapplyNecessity, isReapplied, reapplyIfOnPath, reapplyNecessityAfterPossibility}
-use Rattle.definition.specs.Contradiction.{Pair, mark, markAll}
+use Rattle.definition.specs.Tree.{Place, Root, Middle, Node, childless, isLeaf, newNode, nodeAt, placedBelow, linkChain, leaves}
+use Rattle.definition.specs.Contradiction.{Pair, markAll}
 use Rattle.definition.specs.Queue.{Popped, pop}
-use Rattle.definition.specs.Run.{State, applyHere, applyPossibility, applyNecessity, applyRule, apply, checkedForContradictions, checkForContradictions, appended, stepBy, step, steps, stops, run, rooted, branchNodes, begun, start}
-use Rattle.definition.specs.Subtree.{Subtree, Targeted, withMiddle, withLeftRight, flat, turned, numbered, copied, appendSubtreeOnLeaf, pushSubtree, appendCopies, appendOn, takes, appendSubtree, appendLogicRuleResult}
-use Rattle.definition.proofs.Lists.{true-false, each-map, each-both, each-append, each-any, each-of-map, filter-keeps, upFrom-each, cond-both}
+use Rattle.definition.specs.Run.{State, apply, checkedForContradictions, checkForContradictions, appended, stepBy, step, steps, stops, run, rooted, branchNodes, begun, start}
+use Rattle.definition.specs.Subtree.{Subtree, Targeted, withMiddle, flat, numbered, copied, appendSubtreeOnLeaf, pushSubtree, appendCopies, appendOn, takes, appendSubtree, appendLogicRuleResult}
+use Rattle.definition.proofs.Lists.{true-false, each-map, each-both, each-any, each-of-map, filter-keeps, upFrom-each, cond-both}
 use Rattle.definition.proofs.Nodes.{mark-keeps, length-marks, length-chain, length-leaf, node-append, ext-copies, ext-subtree, ext-result, blank}
 use Rattle.definition.proofs.Issued.{Distinct, rising-distinct, Issued, distinct-filter, ids-numbered, issued-le, issued-front, apply-issued}
 use Rattle.definition.proofs.Made.{apply-each}

@@ -2,9 +2,9 @@
 use mathlib.Core.Path.{_≡_, refl, sym, ap, _∙_, subst}
 use mathlib.Core.Bool.{Bool, true, false, _||_}
 use mathlib.Core.List.{List, [], _∷_, _++_, map}
-use mathlib.Core.Option.{Option, none, some}
+use mathlib.Core.Option.{Option, none}
 use mathlib.Core.Logic.{_⊎_, inl, inr}
-use Prim.Native.Nat.{ℕ, suc, _<_, _≤_, _+_}
+use Prim.Native.Nat.{ℕ, _<_, _≤_, _+_}
 use native.Mathlib.Omega.{arith}
 use lib.ListN.{length, length-append}
 use Rattle.definition.specs.Lists.{Each, all}
@@ -20,7 +20,7 @@ use Rattle.definition.specs.Contradiction.{Pair, isPair, pairs, markAll,
 use Rattle.definition.specs.Run.{State, LogicRuleResult, apply, appended, checkedForContradictions, checkForContradictions}
 use Rattle.definition.proofs.Lists.{true-false, not-true-false, Some, each-map, all-each}
 use Rattle.definition.proofs.Nodes.{Label, label, Ext, ext-trans, ext-append, ext-result, mark-keeps, length-marks}
-use Rattle.definition.proofs.Every.{Every, every-append, every-result}
+use Rattle.definition.proofs.Every.{Every, every-result}
 use Rattle.definition.proofs.Issued.{Issued, apply-issued}
 use Rattle.definition.proofs.Count.{checked-both}
 use Rattle.definition.proofs.Forms.{WellFormed}

@@ -1,17 +1,17 @@
 -- The subtrees of a rule's result hold each identifier that was issued for it once, interval by interval.
-use mathlib.Core.Path.{_≡_, refl, sym, ap, _∙_, subst}
-use mathlib.Core.Bool.{Bool, true, false}
-use mathlib.Core.List.{List, [], _∷_, _++_, map, reverse, reverseAux, append-nil, append-assoc}
+use mathlib.Core.Path.{_≡_, refl, sym, ap, subst}
+use mathlib.Core.Bool.{Bool}
+use mathlib.Core.List.{List, [], _∷_, _++_, map, reverse, reverseAux, append-nil}
 use mathlib.Core.Option.{Option, none, some}
 use mathlib.Core.Logic.{⊎-elim, _≢_}
 use Prim.Native.Nat.{ℕ, zero, suc, _<_, _≤_, _+_}
 use native.Mathlib.Omega.{arith}
 use lib.ListN.{length, length-append, length-map, length-reverse}
 use Rattle.definition.specs.Lists.{Each, upFrom, filter}
-use Rattle.definition.specs.Records.{Rec, nobody}
+use Rattle.definition.specs.Records.{Rec}
 use Rattle.definition.specs.Flags.{Flags}
-use Rattle.definition.specs.Graph.{Graph, initializeGraphIfNeeded, fork}
-use Rattle.definition.specs.Tree.{Node, newNode, nodeAt, leaves, path}
+use Rattle.definition.specs.Graph.{Graph, initializeGraphIfNeeded}
+use Rattle.definition.specs.Tree.{Node, newNode, nodeAt, path}
 use Rattle.definition.specs.Rules.{Rule, nothing, down, split, asPossible, asNecessary, expansion}
 use Rattle.definition.specs.Subtree.{Subtree, Targeted, withMiddle, withLeftRight, flat, turned, numbered}
 use Rattle.definition.specs.Modality.{Necessity, Fork, Made, occurs, giveOn, unvisited, leavesOf, reapplyNecessity, isReapplied, reapplyIfOnPath, reapplyNecessityAfterPossibility}
@@ -206,6 +206,11 @@ here-issued s x more fs =
       omega (arith, length-map (flat (turned fs)) make, length-turned fs),
     )
 
+after-two : (ns : List Necessity) (t : List Node) (g : Graph) (k : Fork) (n : ℕ) →
+    Issued (n + 2) (n + suc (suc (length (reapplyNecessityAfterPossibility t g k (n + 2) ns .nodes)))) (reapplyNecessityAfterPossibility t g k (n + 2) ns .subtrees)
+after-two ns t g k n =
+    subst (λ (m : ℕ). Issued (n + 2) m (reapplyNecessityAfterPossibility t g k (n + 2) ns .subtrees)) (omega arith) (after-issued ns t g k (n + 2))
+
 -- the identifiers of a result's subtrees are those of the nodes that it made
 pub rule-issued : (F : Flags) (s : State) (x : ℕ) (more : List Rec) (r : Rule ℕ) → Takes (length (s .nodes)) (applyRule F s x more r)
 unfolding applyRule applyPossibility applyNecessity flat
@@ -213,18 +218,14 @@ rule-issued F s x more nothing = here-issued s x more (withMiddle [])
 rule-issued F s x more (down fs) = here-issued s x more (withMiddle fs)
 rule-issued F s x more (split fs gs) = here-issued s x more (withLeftRight fs gs)
 rule-issued F s x more (asPossible f) =
-    let n = length (s .nodes) in
-    let g = initializeGraphIfNeeded F (s .graph) in
-    let k : Fork = record { node = x; world = g .worlds } in
-    let forked = fork F g (nodeAt (s .nodes) x .world) in
-    let rest = reapplyNecessityAfterPossibility (s .nodes) forked k (n + 2) (s .necessities) in (
+    let n = length (s .nodes) in (
       n + 2,
       record {
         within = ((omega arith, omega arith), ((omega arith, omega arith), tt));
         distinct = ((λ e. omega (arith, e), tt), (tt, tt));
         count = refl;
       },
-      subst (λ (m : ℕ). Issued (n + 2) m (rest .subtrees)) (omega arith) (after-issued (s .necessities) (s .nodes) forked k (n + 2)),
+      after-two (s .necessities) (s .nodes) _ _ n,
     )
 rule-issued F s x more (asNecessary f) = reapply-issued (s .nodes) (initializeGraphIfNeeded F (s .graph)) none (length (s .nodes)) _
 

@@ -6,9 +6,8 @@ use mathlib.Core.Logic.{_⊎_, inl, inr, ⊎-elim, _≢_}
 use Prim.Native.Nat.{ℕ, zero, suc, _<_, _≤_, _+_}
 use native.Mathlib.Omega.{arith}
 use lib.Dec.{eqb}
-use lib.ListN.{length, getD}
-use borrow.Author.Tests.{eqb-true, eqb-false, eq-eqb}
-use Rattle.definition.specs.Lists.{any, all, filter, find, empty, Each, upFrom, below, elem}
+use borrow.Author.Tests.{eqb-true, eqb-false}
+use Rattle.definition.specs.Lists.{any, all, filter, Each, upFrom, below, elem}
 
 pub true-false : {A : Type 0} → true ≡ false → A
 true-false {A} e = let z : _≡_ {A = ℕ} 0 1 = cc (e) in absurd (omega arith)

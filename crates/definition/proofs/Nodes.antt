@@ -1,19 +1,19 @@
 -- What placing leaves of the nodes that are there: links change parent, place and children, and nothing else.
 use mathlib.Core.Path.{_≡_, refl, sym, ap, _∙_, subst}
-use mathlib.Core.Bool.{Bool, true, false}
+use mathlib.Core.Bool.{true, false}
 use mathlib.Core.List.{List, [], _∷_, _++_, map}
 use mathlib.Core.Option.{Option, none, some}
 use mathlib.Core.Logic.{_⊎_, inl, inr, _≢_}
-use Prim.Native.Nat.{ℕ, zero, suc, _<_, _≤_, _+_}
+use Prim.Native.Nat.{ℕ, _<_, _≤_}
 use native.Mathlib.Omega.{arith}
 use lib.Dec.{eqb, ltb}
 use borrow.Author.Tests.{ltb-true, ltb-false, eqb-true, eqb-false}
-use lib.ListN.{length, getD, set, length-append, length-set, List·getD-append}
+use lib.ListN.{length, length-append, length-set, List·getD-append}
 use lib.Seq.{getD-set-same, getD-set-other, set-out}
 use Rattle.definition.specs.Lists.{filter}
 use Rattle.definition.specs.Records.{nobody}
 use Rattle.definition.specs.Tree.{Node, Place, Left, Middle, Right, newNode, nodeAt, placedBelow, withChild, markedAgainst, change, link, linkChain, leaves}
-use Rattle.definition.specs.Subtree.{Subtree, Targeted, flat, numbered, copied, appendSubtreeOnLeaf, pushSubtree, Placed, appendCopies, appendOn, takes, appendSubtree, appendLogicRuleResult}
+use Rattle.definition.specs.Subtree.{Subtree, Targeted, flat, numbered, copied, appendSubtreeOnLeaf, pushSubtree, appendCopies, appendOn, takes, appendSubtree, appendLogicRuleResult}
 use Rattle.definition.specs.Contradiction.{Pair, mark, markAll}
 use Rattle.definition.proofs.Lists.{either}
 

@@ -1,39 +1,38 @@
 -- Soundness: where a run ends proved, no world of a model with the flagged properties makes every marked formula true.
 use mathlib.Core.Path.{_≡_, refl, sym, ap, _∙_, subst}
 use mathlib.Core.Bool.{Bool, true, false, cond}
-use mathlib.Core.List.{List, [], _∷_, _++_, map}
+use mathlib.Core.List.{List, [], _∷_, map}
 use mathlib.Core.Option.{Option, none, some}
 use mathlib.Core.Logic.{_⊎_, inl, inr}
 use Prim.Native.Nat.{ℕ, zero, suc, _<_, _≤_, _+_}
 use native.Mathlib.Omega.{arith}
 use lib.Dec.{eqb}
 use borrow.Author.Tests.{eqb-true, ne-eqb, ltb-false}
-use lib.ListN.{length, length-map}
+use lib.ListN.{length}
 use Rattle.definition.specs.Limits.{mostIdentifiers}
 use Rattle.definition.specs.Lists.{Each, upFrom, empty}
 use Rattle.definition.specs.Records.{Rec, nobody, isNobody, decode, marks, marksFrom}
 use Rattle.definition.specs.Formula.{formAt}
 use Rattle.definition.specs.Flags.{Flags, flagsOf}
 use Rattle.definition.specs.Models.{Model, Has, truth}
-use Rattle.definition.specs.Checks.{Lengths, Check, refused}
-use Rattle.definition.specs.Graph.{emptyGraph, initializeGraphIfNeeded}
+use Rattle.definition.specs.Checks.{Check, refused}
+use Rattle.definition.specs.Graph.{emptyGraph}
 use Rattle.definition.specs.Tree.{Node, Root, Middle, newNode, nodeAt, placedBelow, linkChain, isLeaf}
 use Rattle.definition.specs.Queue.{Popped, pop}
-use Rattle.definition.specs.Run.{State, appended, checkForContradictions, stepBy, step, steps, full, stops, rooted, branchNodes, begun, start, final}
-use Rattle.definition.specs.Trays.{Trays}
-use Rattle.definition.specs.Call.{Outcome, Refused, Full, Ended, outcomeOfRun, outcomeBy, outcome, answerOf, answer, lengthsOf}
+use Rattle.definition.specs.Run.{State, appended, stepBy, step, steps, full, stops, rooted, branchNodes, begun, start, final}
+use Rattle.definition.specs.Call.{Full, Ended, outcomeOfRun, outcomeBy, outcome, answerOf, answer, lengthsOf}
 use Rattle.definition.specs.Claim.{Proved, NoModel, Demand3}
 use Rattle.definition.proofs.Lists.{true-false, either, cond-both, each-map, each-both, each-of-map, upFrom-each}
 use Rattle.definition.proofs.Nodes.{Label, label, label-stable, chain-keeps}
 use Rattle.definition.proofs.Every.{Every, each-every}
 use Rattle.definition.proofs.Count.{Known, known-step, known-start, Out, pop-out, checked-length, length-rooted}
-use Rattle.definition.proofs.Exact.{steps-grow, step-grows}
+use Rattle.definition.proofs.Exact.{steps-grow}
 use Rattle.definition.proofs.Forms.{WellFormed}
 use Rattle.definition.proofs.Clash.{Sat}
 use Rattle.definition.proofs.Edges.{no-edges, init-worlds}
 use Rattle.definition.proofs.Open.{Whole, New, adds, slot-middle, chain-in}
 use Rattle.definition.proofs.Accepted.{Accepted, accepted}
-use Rattle.definition.proofs.Invariant.{Ok, Inv, inv-checked, inv-appended}
+use Rattle.definition.proofs.Invariant.{Inv, inv-checked, inv-appended}
 use Rattle.definition.proofs.Step.{apply-faithful}
 
 module _ (F : Flags) (M : Model) (has : Has F M) (w : ℕ) (begun′ : F .symmetric ≡ true → F .transitive ≡ true → M .reach w w ≡ true) where

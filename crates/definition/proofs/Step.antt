@@ -1,14 +1,12 @@
 -- Each rule, applied to a node of a state that has the invariant, gives a faithful result.
-use mathlib.Core.Path.{_≡_, refl, sym, ap, _∙_, subst}
+use mathlib.Core.Path.{_≡_, refl, sym, _∙_, subst}
 use mathlib.Core.Bool.{Bool, true, false}
-use mathlib.Core.List.{List, [], _∷_, _++_, map, reverse, append-assoc}
+use mathlib.Core.List.{List, [], _∷_, _++_, map, append-assoc}
 use mathlib.Core.Option.{Option, none, some}
 use mathlib.Core.Logic.{_⊎_, inl, inr}
-use Prim.Native.Nat.{ℕ, suc, _<_, _≤_, _+_}
+use Prim.Native.Nat.{ℕ, suc, _<_, _+_}
 use native.Mathlib.Omega.{arith}
-use lib.ListN.{length, length-append, length-reverse, List·getD-eq-default}
-use lib.Dec.{ltb}
-use borrow.Author.Tests.{ltb-true, ltb-false}
+use lib.ListN.{length, length-append, length-reverse}
 use Rattle.definition.specs.Lists.{Each, elem, filter}
 use Rattle.definition.specs.Records.{Rec, nobody}
 use Rattle.definition.specs.Flags.{Flags}
@@ -17,12 +15,11 @@ use Rattle.definition.specs.Graph.{Graph, edge, initializeGraphIfNeeded,
 use Rattle.definition.specs.Tree.{Node, newNode, nodeAt, leaves, path}
 use Rattle.definition.specs.Rules.{Rule, nothing, down, split, asPossible, asNecessary, expansion}
 use Rattle.definition.specs.Subtree.{Subtree, withMiddle, withLeftRight, flat, turned, numbered}
-use Rattle.definition.specs.Modality.{Necessity, Fork, unvisited, reapplyNecessity, visiting, reapplyNecessityAfterPossibility}
-use Rattle.definition.specs.Run.{State, LogicRuleResult, applyHere, applyPossibility, applyNecessity, applyRule, apply}
+use Rattle.definition.specs.Modality.{Necessity, Fork, unvisited, visiting, reapplyNecessityAfterPossibility}
+use Rattle.definition.specs.Run.{State, applyHere, applyPossibility, applyNecessity, applyRule, apply}
 use Rattle.definition.proofs.Lists.{true-false, either, Some, each-map, each-any, filter-each, each-of-map}
-use Rattle.definition.proofs.Nodes.{blank, Label, label}
-use Rattle.definition.proofs.Every.{Every, every-append}
-use Rattle.definition.proofs.Issued.{each-turned}
+use Rattle.definition.proofs.Nodes.{label}
+use Rattle.definition.proofs.Every.{every-append}
 use Rattle.definition.proofs.Made.{Gifts, reapply-each, after-each-node}
 use Rattle.definition.proofs.Forms.{WellFormed}
 use Rattle.definition.proofs.Priest.{Filled, no-rule, rule-filled, expansion-wf, Holds, holds-more, Fits, rule-fits}

@@ -1,11 +1,10 @@
 -- The trays: what is written has exactly its length, and everything beyond it, and every refused call's trays, stay as lent.
-use mathlib.Core.Path.{_≡_, refl, sym, ap, _∙_, subst}
-use mathlib.Core.Bool.{Bool, true, false, cond}
-use mathlib.Core.List.{List, [], _∷_, _++_, map}
-use Prim.Native.Nat.{ℕ, _≤_, _+_, _*_, _-_}
+use mathlib.Core.Path.{_≡_, refl, subst}
+use mathlib.Core.List.{List, [], _∷_, _++_}
+use Prim.Native.Nat.{ℕ, _≤_, _*_, _-_}
 use native.Mathlib.Omega.{arith}
-use lib.ListN.{length, replicate, take, drop, length-append, length-map, length-drop, length-replicate}
-use lib.Seq.{take-at, drop-append-seam}
+use lib.ListN.{length, replicate, drop, length-append, length-map, length-drop, length-replicate}
+use lib.Seq.{drop-append-seam}
 use Rattle.definition.specs.Limits.{mostIdentifiers, mostWorlds, nodeTrayLength, formulaTrayLength, edgeTrayLength}
 use Rattle.definition.specs.Lists.{concatMap}
 use Rattle.definition.specs.Records.{Rec}

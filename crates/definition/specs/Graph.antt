@@ -1,7 +1,7 @@
 -- The world graph, and "Missing edges". The names are graph.rs's and missing_vertices.rs's; a vertex there is an edge here.
-use mathlib.Core.Bool.{Bool, true, false, not, _&&_, _||_, cond}
-use mathlib.Core.List.{List, [], _∷_, map}
-use Prim.Native.Nat.{ℕ, zero, suc}
+use mathlib.Core.Bool.{Bool, false, not, _&&_, _||_, cond}
+use mathlib.Core.List.{List, [], map}
+use Prim.Native.Nat.{ℕ, suc}
 use lib.Dec.{eqb}
 use lib.ListN.{getD}
 use Rattle.definition.specs.Lists.{any, below, filter}

@@ -1,7 +1,7 @@
 -- Refusals 1 to 11 computed: each with its place, and each beside the next check where both can apply.
 use mathlib.Core.Path.{_≡_, refl}
 use mathlib.Core.List.{List, [], _∷_, _++_, map}
-use Prim.Native.Nat.{ℕ, zero, suc}
+use Prim.Native.Nat.{ℕ}
 use lib.ListN.{replicate}
 use Rattle.definition.specs.Lists.{concatMap, upFrom}
 use Rattle.definition.specs.Checks.{Lengths}

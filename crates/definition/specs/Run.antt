@@ -1,5 +1,5 @@
 -- "The run": the rule of a node applied, the start, a step, and the steps until none is due. The names are proof.rs's.
-use mathlib.Core.Bool.{Bool, true, false, _||_, cond}
+use mathlib.Core.Bool.{Bool, false, _||_, cond}
 use mathlib.Core.List.{List, [], _∷_, _++_, map, reverse}
 use mathlib.Core.Option.{Option, none, some}
 use Prim.Native.Nat.{ℕ, zero, suc, _+_}
@@ -11,11 +11,11 @@ use Rattle.definition.specs.Records.{Rec, marks, nobody}
 use Rattle.definition.specs.Flags.{Flags}
 use Rattle.definition.specs.Graph.{Graph, emptyGraph, initializeGraphIfNeeded, fork}
 use Rattle.definition.specs.Tree.{Node, Root, Middle, newNode, nodeAt, placedBelow, linkChain, leaves, path}
-use Rattle.definition.specs.Rules.{Rule, nothing, down, split, asPossible, asNecessary, Expansion, expansion}
+use Rattle.definition.specs.Rules.{Rule, nothing, down, split, asPossible, asNecessary, expansion}
 use Rattle.definition.specs.Subtree.{Subtree, Targeted, withMiddle, withLeftRight, flat, turned, numbered, appendLogicRuleResult}
 use Rattle.definition.specs.Modality.{Necessity, Fork, reapplyNecessity, visiting, reapplyNecessityAfterPossibility, necessitiesAfterPossibility}
 use Rattle.definition.specs.Queue.{Popped, pop}
-use Rattle.definition.specs.Contradiction.{Pair, pairs, markAll, isPair}
+use Rattle.definition.specs.Contradiction.{pairs, markAll, isPair}
 
 -- formulas: "input and made"; necessities: the stack, the last one pushed first; waiting: the queue
 pub record State : Type 0 where

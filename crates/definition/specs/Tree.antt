@@ -2,7 +2,6 @@
 use mathlib.Core.Bool.{Bool, cond, _&&_, not}
 use mathlib.Core.List.{List, [], _∷_, _++_}
 use Prim.Native.Nat.{ℕ, zero, suc}
-use lib.Dec.{eqb}
 use lib.ListN.{length, getD, set}
 use Rattle.definition.specs.Records.{nobody, isNobody}
 

@@ -1,7 +1,7 @@
 -- Demand 3 says something: every set of flags has models, and the proviso of flags 6 is needed.
 use mathlib.Core.Path.{_≡_, refl, sym}
-use mathlib.Core.Bool.{Bool, true, false}
-use mathlib.Core.List.{List, [], _∷_}
+use mathlib.Core.Bool.{true, false}
+use mathlib.Core.List.{List}
 use Prim.Native.Nat.{ℕ, _<_}
 use native.Mathlib.Omega.{arith}
 use lib.Dec.{eqb}
@@ -10,11 +10,9 @@ use Rattle.definition.specs.Records
 use Rattle.definition.specs.Records.{decode, marks}
 use Rattle.definition.specs.Formula
 use Rattle.definition.specs.Formula.{formAt}
-use Rattle.definition.specs.Flags.{Flags, flagsOf}
-use Rattle.definition.specs.Checks.{Lengths}
+use Rattle.definition.specs.Flags.{flagsOf}
 use Rattle.definition.specs.Models.{Model, Has, truth}
-use Rattle.definition.specs.Trays.{Trays}
-use Rattle.definition.specs.Call.{Outcome, answerOf, answer, outcome, lengthsOf}
+use Rattle.definition.specs.Call.{answerOf, answer, outcome}
 use Rattle.definition.specs.Claim.{Proved}
 use Rattle.definition.specs.Cases.{deadEnd, lent, computed}
 use Rattle.definition.proofs.Lists.{true-false}

@@ -1,33 +1,30 @@
 -- The claims of specs/Claims, proved from the laws of crates/definition.
-use mathlib.Core.Path.{_≡_, refl, sym, ap, _∙_, subst}
-use mathlib.Core.Bool.{Bool, true, false, cond, _||_}
-use mathlib.Core.List.{List, [], _∷_, _++_}
-use mathlib.Core.Option.{Option, none, some}
+use mathlib.Core.Path.{_≡_, refl, _∙_, subst}
+use mathlib.Core.Bool.{Bool, true, false, _||_}
+use mathlib.Core.List.{List}
 use mathlib.Core.Logic.{_⊎_, inl, inr, _≢_}
-use Prim.Native.Nat.{ℕ, zero, suc, _<_, _≤_, _+_, _*_, _/_, _^_}
+use Prim.Native.Nat.{ℕ, suc, _<_, _≤_, _^_}
 use native.Mathlib.Omega.{arith}
-use native.Mathlib.Nat.{pow-suc, lt-of-lt-of-le}
-use lib.Dec.{leb, ltb}
+use native.Mathlib.Nat.{lt-of-lt-of-le}
+use lib.Dec.{leb}
 use lib.Pow.{pow-mono}
-use borrow.Author.Tests.{leb-true, ltb-true, ltb-false, lt-ltb}
-use lib.ListN.{length, getD}
-use Rattle.definition.specs.Limits.{mostRecords, mostIdentifiers, mostWorlds}
+use borrow.Author.Tests.{leb-true, ltb-true, lt-ltb}
+use lib.ListN.{length}
+use Rattle.definition.specs.Limits.{mostIdentifiers, mostWorlds}
 use Rattle.definition.specs.Lists.{Each, empty, below}
-use Rattle.definition.specs.Records.{Rec, numberOf, recordAt, decode, recAt}
+use Rattle.definition.specs.Records.{Rec, decode}
 use Rattle.definition.specs.Flags.{Flags, flagsOf}
-use Rattle.definition.specs.Checks.{Lengths, Check, refused}
+use Rattle.definition.specs.Checks.{Lengths}
 use Rattle.definition.specs.Tree.{Node, Place, Left, Middle, Right, Root, Unplaced, nodeAt}
 use Rattle.definition.specs.Graph.{initializeGraphIfNeeded}
-use Rattle.definition.specs.Subtree.{Targeted, appendLogicRuleResult}
-use Rattle.definition.specs.Run.{State, apply, step, ended, full, stops, steps, run, unlimitedRun, start, final}
-use Rattle.definition.specs.Trays.{Trays, rowNumber, traysOf, zeroTrays, laidOver}
-use Rattle.definition.specs.Call.{Outcome, Refused, Full, Ended, outcomeOfRun, outcomeBy, outcome, traysAfter, traysLeft, lengthsOf}
+use Rattle.definition.specs.Run.{State, ended, full, stops, steps, unlimitedRun, start, final}
+use Rattle.definition.specs.Trays.{rowNumber, traysOf}
 use Rattle.definition.specs.Claim.{Demand3}
-use Rattle.definition.proofs.Lists.{or-cases, each-map, each-both, each-any, each-of-map}
-use Rattle.definition.proofs.Nodes.{Ext, ext-result}
+use Rattle.definition.proofs.Lists.{or-cases, each-map}
+use Rattle.definition.proofs.Nodes.{ext-result}
 use Rattle.definition.proofs.Forms.{WellFormed}
 use Rattle.definition.proofs.Priest.{rule-is-priest}
-use Rattle.definition.proofs.Edges.{Squared, init-one, init-less}
+use Rattle.definition.proofs.Edges.{init-one, init-less}
 use Rattle.definition.proofs.Exact
 use Rattle.definition.proofs.Treed
 use Rattle.definition.proofs.Treed.{Treed, placed, childAt}
@@ -38,7 +35,7 @@ use Rattle.definition.proofs.Fields
 use Rattle.definition.proofs.TraysKept
 use Rattle.definition.proofs.Calls
 use Rattle.definition.proofs.Sound
-use Rattle.soundness.specs.Claims.{RulesArePriests, Stops, StaysStopped, FullExactly, NotFullExactly, StepsGrow, PartsGrow, childOf, IsTree, TreesOfRun, TreesOfStep, NodeFits, RecordFits, Fits, RunsFit, Beyond, TraysKeep, TraysSized, RefusalsWriteNothing}
+use Rattle.soundness.specs.Claims.{RulesArePriests, Stops, StaysStopped, FullExactly, NotFullExactly, StepsGrow, PartsGrow, childOf, IsTree, TreesOfRun, TreesOfStep, RecordFits, Fits, RunsFit, Beyond, TraysKeep, TraysSized, RefusalsWriteNothing}
 
 pub demand-3 : Demand3
 demand-3 = Sound.demand-3
