@@ -1,6 +1,7 @@
 #![feature(box_patterns)]
 #![allow(unused, dead_code, unstable_name_collisions)]
 //! Oracle harness. One input line `FLAGS HEX` -> one output line.
+mod stand_in;
 mod formula;
 mod graph;
 mod logic;
