@@ -1,0 +1,60 @@
+use Prim.Native.Nat.{ℕ, _+_, _*_, _-_, _≤_}
+use mathlib.Core.Bool.{Bool}
+use borrow.Author.Needs.{needs}
+use Rattle.bits.specs.Bits.{Bits}
+use Rattle.bits.proofs.Laws.{without, row-out, row-start, row-next, row-end}
+use Rattle.bits.proofs.clear_row.Statement.{statement}
+use Rattle.bits.proofs.clear_row.Tie as tie
+
+abbrev Inv-loop : tie.InvT-loop
+Inv-loop words₀ row first k₀ k-end words k = (row * 16 ≤ k) × (k ≤ row * 16 + 16) × ((p : ℕ → Bool) → Bits p words₀ → Bits (without row k p) words)
+
+abbrev μ-loop : tie.MeasureT-loop
+μ-loop words₀ row first k₀ k-end words k = k-end - k
+
+returns : tie.Need-returns Inv-loop μ-loop
+returns c = λ p b. row-out p _ _ (c .if1 .taken) b
+
+mul-first : tie.Need-mul-first Inv-loop μ-loop
+mul-first c = search needs
+
+add-k-end : tie.Need-add-k-end Inv-loop μ-loop
+add-k-end c = search needs
+
+loop-holds : tie.Need-loop-holds Inv-loop μ-loop
+loop-holds c = (search needs, search needs, λ p b. row-start _ p _ b)
+
+mul-words : tie.Need-mul-words Inv-loop μ-loop
+mul-words c = search needs
+
+element-write-words : tie.Need-element-write-words Inv-loop μ-loop
+element-write-words c = search needs
+
+add-k : tie.Need-add-k Inv-loop μ-loop
+add-k c = search needs
+
+loop-less : tie.Need-loop-less Inv-loop μ-loop
+loop-less c = search needs
+
+loop-again : tie.Need-loop-again Inv-loop μ-loop
+loop-again c = (search needs, search needs, λ p b. row-next _ p _ _ (c .before .before .if1 .left) (c .before .loop .inv .0) (c .loop-test .taken) (c .before .loop .inv .2 p b))
+
+returns-2 : tie.Need-returns-2 Inv-loop μ-loop
+returns-2 c = λ p b. row-end _ p _ _ (c .loop-test .left) (c .before .loop .inv .2 p b)
+
+pub clear-row-spec : {M : Type 1} → statement M
+clear-row-spec =
+    tie.close
+    (tie.spec
+    Inv-loop
+    μ-loop
+    returns
+    mul-first
+    add-k-end
+    loop-holds
+    mul-words
+    element-write-words
+    add-k
+    loop-less
+    loop-again
+    returns-2)

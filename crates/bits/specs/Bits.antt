@@ -1,0 +1,20 @@
+-- A set of numbers below 262,144 in an array of 8,192 words of 32 bits.
+use Prim.Native.Nat.{ℕ, _/_, _%_, _^_, _<_}
+use mathlib.Core.Path.{_≡_}
+use mathlib.Core.Bool.{Bool}
+use mathlib.Core.List.{List}
+use lib.ListN.{length, getD}
+use lib.Dec.{eqb}
+
+-- bit k of a number
+unfoldable pub bitOf : ℕ → ℕ → Bool
+bitOf n k = eqb (n / 2 ^ k % 2) 1
+
+-- bit i of an array of words
+unfoldable pub bitAt : List ℕ → ℕ → Bool
+bitAt a i = bitOf (getD a (i / 32) 0) (i % 32)
+
+-- the array has the bits of the set p
+pub record Bits (p : ℕ → Bool) (a : List ℕ) : Type 0 where
+  pub long : length a ≡ 8192
+  pub same : (i : ℕ) → i < 262144 → bitAt a i ≡ p i

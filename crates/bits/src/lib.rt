@@ -1,0 +1,58 @@
+// A set of numbers below 262,144, one bit each, in an array of 8,192 words.
+ghost use mathlib.Core.Path.{_≡_};
+ghost use mathlib.Core.Bool.{Bool, not, _&&_, _||_};
+ghost use Prim.Native.Nat.{ℕ, _/_, _%_, _<_};
+ghost use lib.Dec.{eqb, ltb};
+ghost use Rattle.bits.specs.Bits.{bitOf, Bits};
+
+// The bit of i in a word.
+fn bit(word: u32, i: usize) -> bool
+    ensures { λ r. ⌜ r ≡ bitOf word (i % 32) ⌝ }
+{
+    (word >> (i % 32)) % 2 == 1
+}
+
+// The word with the bit of i set.
+fn with_bit(word: u32, i: usize) -> u32
+    ensures { λ r. ⌜ ((k : ℕ) → k < 32 → bitOf r k ≡ (eqb k (i % 32) || bitOf word k)) ⌝ }
+{
+    if bit(word, i) {
+        return word;
+    }
+    word + (1u32 << (i % 32))
+}
+
+// Whether i is in the set. No number out of range is.
+pub fn contains(words: &[u32; 8192], i: usize) -> bool
+    ensures { λ r. ⌜ ((p : ℕ → Bool) → Bits p (now (words .entry)) → r ≡ (ltb i 262144 && p i)) ⌝ }
+{
+    if 262144 <= i {
+        return false;
+    }
+    bit(words[i / 32], i)
+}
+
+// Puts i into the set. Nothing changes for an i out of range.
+pub fn insert(words: &mut [u32; 8192], i: usize)
+    ensures { λ r. ⌜ ((p : ℕ → Bool) → Bits p (now (words .entry)) → Bits (λ j. eqb j i || p j) (now (words .exit))) ⌝ }
+{
+    if 262144 <= i {
+        return;
+    }
+    let k = i / 32;
+    let word = words[k];
+    words[k] = with_bit(word, i);
+}
+
+// Takes the numbers from row * 512 to row * 512 + 511 out of the set. There are 512 rows.
+pub fn clear_row(words: &mut [u32; 8192], row: usize)
+    ensures { λ r. ⌜ ((p : ℕ → Bool) → Bits p (now (words .entry)) → Bits (λ j. not (eqb (j / 512) row) && p j) (now (words .exit))) ⌝ }
+{
+    if 512 <= row {
+        return;
+    }
+    let first = row * 16;
+    for k in first..first + 16 {
+        words[k] = 0;
+    }
+}

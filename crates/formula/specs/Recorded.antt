@@ -1,0 +1,32 @@
+-- The records in one array of 1,280 rows, four numbers to a row: kind, mark, left, right. Zeros stand after the last record.
+use Prim.Native.Nat.{ℕ, zero, suc, _≤_, _<_}
+use mathlib.Core.Path.{_≡_}
+use mathlib.Core.List.{List, [], _∷_}
+use lib.ListN.{length}
+use Rattle.arrays.specs.Data.{pad}
+use Rattle.definition.specs.Records.{Rec, Unknown, made, numberOf, kindOf}
+
+-- field j of a record
+abbrev pub column : ℕ → Rec → ℕ
+column zero r = numberOf (r .kind)
+column (suc zero) r = r .mark
+column (suc (suc zero)) r = r .left
+column (suc (suc (suc j))) r = r .right
+
+-- what `recAt` says of a record that is not there
+abbrev pub missing : Rec
+missing = made Unknown 0 0
+
+-- the rows of the records, one after the other
+abbrev pub flat : List Rec → List ℕ
+flat [] = []
+flat (r ∷ rs) = numberOf (r .kind) ∷ r .mark ∷ r .left ∷ r .right ∷ flat rs
+
+-- the array holds the records, and count is how many; a count above 1,280 says that there are too many, and nothing of the array
+pub data Recorded (rs : List Rec) (count : ℕ) (a : List ℕ) : Type 0 where
+  recorded : count ≤ 1280 → length rs ≡ count → a ≡ pad 5120 (flat rs) → Recorded rs count a
+  tooMany : 1280 < count → 1280 < length rs → Recorded rs count a
+
+-- the record with this kind number and these fields; a number above 8 is no kind of the table
+abbrev pub row : ℕ → ℕ → ℕ → ℕ → Rec
+row k m l r = record { kind = kindOf k; mark = m; left = l; right = r }

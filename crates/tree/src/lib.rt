@@ -1,0 +1,232 @@
+// The nodes of the proof tree, nine numbers to a node, in one lent array; paths and their leaves.
+use formula::FormulaNumber;
+use graph::PossibleWorld;
+ghost use mathlib.Core.Path.{_≡_};
+ghost use mathlib.Core.Bool.{Bool, cond, _&&_, _||_, not};
+ghost use mathlib.Core.List.{List, [], _∷_, _++_};
+ghost use Prim.Native.Nat.{ℕ, _≤_, _<_, _+_};
+ghost use lib.Dec.{eqb};
+ghost use lib.ListN.{length, getD, set};
+ghost use Rattle.definition.specs.Records.{isNobody};
+ghost use Rattle.definition.specs.Tree.{Node, Place, nodeAt, newNode, markedAgainst, isContradictory, change, link, linkChain, isLeaf};
+ghost use Rattle.tree.specs.Lay.{placeCode, row, lay, Held};
+ghost use Rattle.tree.specs.Chain.{chainOf, Below};
+
+pub struct ProofTreeNodeID(pub u16);
+
+impl ProofTreeNodeID {
+    // No node: what a node that lacks a parent, a child, a spawner or a contrarian has there.
+    pub const NONE: ProofTreeNodeID = ProofTreeNodeID(65535);
+
+    pub fn is(self, other: ProofTreeNodeID) -> bool
+        ensures { λ r. ⌜ r ≡ eqb (self .0) (other .0) ⌝ }
+    {
+        self.0 == other.0
+    }
+
+    pub fn is_none(self) -> bool
+        ensures { λ r. ⌜ r ≡ isNobody (self .0) ⌝ }
+    {
+        self.is(ProofTreeNodeID::NONE)
+    }
+}
+
+// `count` identifiers from `start` on; the first is the top if rising, else the last.
+pub struct Chain {
+    pub start: u16,
+    pub count: u16,
+    pub rising: bool,
+}
+
+// Number j of the row of node x; 65535 where there is none.
+fn field(tree: &[u16; 4608], x: ProofTreeNodeID, j: usize) -> u16
+    ensures { λ r. ⌜ ((ns : List Node) → length ns ≤ 512 → now (tree .entry) ≡ lay ns → r ≡ getD (row (nodeAt ns (x .0))) j 65535) ⌝ }
+{
+    let i = x.0 as usize;
+    if 512 <= i {
+        return 65535;
+    }
+    if 9 <= j {
+        return 65535;
+    }
+    tree[i * 9 + j]
+}
+
+pub fn parent_of(tree: &[u16; 4608], x: ProofTreeNodeID) -> ProofTreeNodeID
+    ensures { λ r. ⌜ ((ns : List Node) → length ns ≤ 512 → now (tree .entry) ≡ lay ns → r .0 ≡ nodeAt ns (x .0) .parent) ⌝ }
+{
+    ProofTreeNodeID(field(tree, x, 0))
+}
+
+// Root 0, left 1, middle 2, right 3; 65535 if it is not in the tree.
+pub fn place_of(tree: &[u16; 4608], x: ProofTreeNodeID) -> u16
+    ensures { λ r. ⌜ ((ns : List Node) → length ns ≤ 512 → now (tree .entry) ≡ lay ns → r ≡ placeCode (nodeAt ns (x .0) .place)) ⌝ }
+{
+    field(tree, x, 1)
+}
+
+pub fn world_of(tree: &[u16; 4608], x: ProofTreeNodeID) -> PossibleWorld
+    ensures { λ r. ⌜ ((ns : List Node) → length ns ≤ 512 → now (tree .entry) ≡ lay ns → r .0 ≡ nodeAt ns (x .0) .world) ⌝ }
+{
+    PossibleWorld(field(tree, x, 2))
+}
+
+pub fn formula_of(tree: &[u16; 4608], x: ProofTreeNodeID) -> FormulaNumber
+    ensures { λ r. ⌜ ((ns : List Node) → length ns ≤ 512 → now (tree .entry) ≡ lay ns → r .0 ≡ nodeAt ns (x .0) .formula) ⌝ }
+{
+    FormulaNumber(field(tree, x, 3))
+}
+
+pub fn spawner_of(tree: &[u16; 4608], x: ProofTreeNodeID) -> ProofTreeNodeID
+    ensures { λ r. ⌜ ((ns : List Node) → length ns ≤ 512 → now (tree .entry) ≡ lay ns → r .0 ≡ nodeAt ns (x .0) .spawner) ⌝ }
+{
+    ProofTreeNodeID(field(tree, x, 4))
+}
+
+pub fn contrarian_of(tree: &[u16; 4608], x: ProofTreeNodeID) -> ProofTreeNodeID
+    ensures { λ r. ⌜ ((ns : List Node) → length ns ≤ 512 → now (tree .entry) ≡ lay ns → r .0 ≡ nodeAt ns (x .0) .contrarian) ⌝ }
+{
+    ProofTreeNodeID(field(tree, x, 5))
+}
+
+pub fn left_of(tree: &[u16; 4608], x: ProofTreeNodeID) -> ProofTreeNodeID
+    ensures { λ r. ⌜ ((ns : List Node) → length ns ≤ 512 → now (tree .entry) ≡ lay ns → r .0 ≡ nodeAt ns (x .0) .children .left) ⌝ }
+{
+    ProofTreeNodeID(field(tree, x, 6))
+}
+
+pub fn middle_of(tree: &[u16; 4608], x: ProofTreeNodeID) -> ProofTreeNodeID
+    ensures { λ r. ⌜ ((ns : List Node) → length ns ≤ 512 → now (tree .entry) ≡ lay ns → r .0 ≡ nodeAt ns (x .0) .children .middle) ⌝ }
+{
+    ProofTreeNodeID(field(tree, x, 7))
+}
+
+pub fn right_of(tree: &[u16; 4608], x: ProofTreeNodeID) -> ProofTreeNodeID
+    ensures { λ r. ⌜ ((ns : List Node) → length ns ≤ 512 → now (tree .entry) ≡ lay ns → r .0 ≡ nodeAt ns (x .0) .children .right) ⌝ }
+{
+    ProofTreeNodeID(field(tree, x, 8))
+}
+
+pub fn is_leaf(tree: &[u16; 4608], x: ProofTreeNodeID) -> bool
+    ensures { λ r. ⌜ ((ns : List Node) → length ns ≤ 512 → now (tree .entry) ≡ lay ns → r ≡ isLeaf (nodeAt ns (x .0) .children)) ⌝ }
+{
+    let l = left_of(tree, x);
+    let m = middle_of(tree, x);
+    let r = right_of(tree, x);
+    l.is_none() && (m.is_none() && r.is_none())
+}
+
+pub fn is_contradictory(tree: &[u16; 4608], x: ProofTreeNodeID) -> bool
+    ensures { λ r. ⌜ ((ns : List Node) → length ns ≤ 512 → now (tree .entry) ≡ lay ns → r ≡ isContradictory (nodeAt ns (x .0))) ⌝ }
+{
+    !contrarian_of(tree, x).is_none()
+}
+
+// Stores number j of the row of node x, where there is one.
+fn put_field(tree: &mut [u16; 4608], len: usize, x: ProofTreeNodeID, j: usize, v: u16)
+    ensures { λ r. ⌜ ((ns : List Node) (f : Node → Node) → ((n : Node) → row (f n) ≡ set (row n) j v) → Held ns len (now (tree .entry)) → Held (change ns (x .0) f) len (now (tree .exit))) ⌝ }
+{
+    let i = x.0 as usize;
+    if 512 < len {
+        return;
+    }
+    if len <= i {
+        return;
+    }
+    if 9 <= j {
+        return;
+    }
+    tree[i * 9 + j] = v;
+}
+
+// The table of no node.
+pub fn empty_table() -> [u16; 4608]
+    ensures { λ r. ⌜ Held [] 0 r ⌝ }
+{
+    [65535u16; 4608]
+}
+
+// One node more, not in the tree yet, whose identifier is the old count; 513 where there is no room.
+pub fn new_node(
+    tree: &mut [u16; 4608],
+    len: usize,
+    spawner: ProofTreeNodeID,
+    formula: FormulaNumber,
+    world: PossibleWorld,
+) -> usize
+    ensures { λ r. ⌜ ((ns : List Node) → Held ns len (now (tree .entry)) → Held (ns ++ (newNode (spawner .0) (formula .0) (world .0) ∷ [])) r (now (tree .exit))) ⌝ }
+{
+    if 512 <= len {
+        return 513;
+    }
+    let x = ProofTreeNodeID(len as u16);
+    put_field(tree, len + 1, x, 2, world.0);
+    put_field(tree, len + 1, x, 3, formula.0);
+    put_field(tree, len + 1, x, 4, spawner.0);
+    len + 1
+}
+
+// Marks node x against its contrarian.
+pub fn mark_child_node_as_contradictory(
+    tree: &mut [u16; 4608],
+    len: usize,
+    x: ProofTreeNodeID,
+    contrarian: ProofTreeNodeID,
+)
+    ensures { λ r. ⌜ ((ns : List Node) → Held ns len (now (tree .entry)) → Held (change ns (x .0) (markedAgainst (contrarian .0))) len (now (tree .exit))) ⌝ }
+{
+    put_field(tree, len, x, 5, contrarian.0);
+}
+
+// x becomes the child of y at a place: 1 left, 2 middle, 3 right.
+pub fn link(tree: &mut [u16; 4608], len: usize, y: ProofTreeNodeID, place: u16, x: ProofTreeNodeID)
+    ensures { λ r. ⌜ ((ns : List Node) (p : Place) → placeCode p ≡ place → Held ns len (now (tree .entry)) → Held (link ns (y .0) p (x .0)) len (now (tree .exit))) ⌝ }
+{
+    put_field(tree, len, x, 0, y.0);
+    put_field(tree, len, x, 1, place);
+    put_field(tree, len, x, 6, 65535);
+    put_field(tree, len, x, 7, 65535);
+    put_field(tree, len, x, 8, 65535);
+    if place == 0 {
+        return;
+    }
+    put_field(tree, len, y, place as usize + 5, x.0);
+}
+
+// Identifier k of a chain, from the top.
+pub fn chain_at(c: Chain, k: usize) -> ProofTreeNodeID
+    ensures { λ r. ⌜ (Below c 512 → k < c .count → r .0 ≡ getD (chainOf c) k 0) ⌝ }
+{
+    let s = c.start as usize;
+    let n = c.count as usize;
+    if n <= k {
+        return ProofTreeNodeID::NONE;
+    }
+    if 512 < s + n {
+        return ProofTreeNodeID::NONE;
+    }
+    if c.rising {
+        return ProofTreeNodeID((s + k) as u16);
+    }
+    ProofTreeNodeID((s + (n - 1 - k)) as u16)
+}
+
+// The chain below y: the first at a place, each further one the middle child of the one before.
+pub fn link_chain(tree: &mut [u16; 4608], len: usize, y: ProofTreeNodeID, place: u16, c: Chain)
+    ensures { λ r. ⌜ ((ns : List Node) (p : Place) → placeCode p ≡ place → Held ns len (now (tree .entry)) → Below c (length ns) → Held (linkChain ns (y .0) p (chainOf c)) len (now (tree .exit))) ⌝ }
+{
+    if 512 < len {
+        return;
+    }
+    let n = c.count as usize;
+    let mut above = y;
+    let mut at = place;
+    let mut k: usize = 0;
+    while k < n {
+        let x = chain_at(c, k);
+        link(tree, len, above, at, x);
+        above = x;
+        at = 2;
+        k += 1;
+    }
+}
