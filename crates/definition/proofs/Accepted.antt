@@ -9,10 +9,10 @@ use native.Mathlib.Nat.{add-zero}
 use lib.Dec.{ltb, leb}
 use borrow.Author.Tests.{ltb-false, leb-false}
 use lib.ListN.{length, length-append, length-map}
-use Rattle.definition.specs.Limits.{mostRecords, mostMarked, nodeTrayLength, formulaTrayLength, edgeTrayLength}
+use Rattle.definition.specs.Limits.{mostRecords, mostFlags, mostMarked, nodeTrayLength, formulaTrayLength, edgeTrayLength}
 use Rattle.definition.specs.Lists.{Each, any, find, empty, below}
 use Rattle.definition.specs.Records.{Rec, numberOf, links, recordAt, decode, recAt, marks}
-use Rattle.definition.specs.Checks.{Lengths, Check, expandedSize, strayField, recordChecks, checks, refused}
+use Rattle.definition.specs.Checks.{Lengths, Check, expandedSize, nonZeroField, recordChecks, checks, refused}
 use Rattle.definition.proofs.Lists.{or-left, or-right, each-map, each-left, each-right}
 use Rattle.definition.proofs.Issued.{length-from}
 
@@ -37,11 +37,11 @@ pub record Proper (i : ℕ) (r : Rec) : Type 0 where
 abbrev Passed : List Check → Type 0
 Passed = Each (λ (c : Check). c .applies ≡ false)
 
-proper : (i : ℕ) (r : Rec) → ltb 8 (numberOf (r .kind)) ≡ false → (ltb 1 (r .mark) || strayField r) ≡ false → any (leb i) (links r) ≡ false → Proper i r
+proper : (i : ℕ) (r : Rec) → ltb 8 (numberOf (r .kind)) ≡ false → (ltb 1 (r .mark) || nonZeroField r) ≡ false → any (leb i) (links r) ≡ false → Proper i r
 proper i r a b c =
     record {
       kind = ltb-false 8 (numberOf (r .kind)) a;
-      mark = ltb-false 1 (r .mark) (or-left (ltb 1 (r .mark)) (strayField r) b);
+      mark = ltb-false 1 (r .mark) (or-left (ltb 1 (r .mark)) (nonZeroField r) b);
       links = each-map (λ l (e : leb i l ≡ false). leb-false i l e) (links r) (any-false (leb i) (links r) c);
     }
 
@@ -60,7 +60,7 @@ length-decode bytes = length-map (below (length bytes / 6)) (recordAt bytes) ∙
 
 pub record Accepted (bytes : List ℕ) (flags : ℕ) (lent : Lengths) : Type 0 where
   pub few : length (decode bytes) ≤ mostRecords
-  pub flagged : flags < 16
+  pub flagged : flags ≤ mostFlags
   pub nodes : nodeTrayLength ≤ lent .nodes
   pub formulas : formulaTrayLength ≤ lent .formulas
   pub edges : edgeTrayLength ≤ lent .edges
@@ -80,7 +80,7 @@ accepted bytes flags lent e =
     let last = each-right (λ (c : Check). c .applies ≡ false) (recordChecks [] rs) _ later in
     record {
       few = omega (arith, length-decode bytes, ltb-false mostRecords (length bytes / 6) (h .1 .1 .0));
-      flagged = leb-false 16 flags (h .1 .1 .1 .0);
+      flagged = ltb-false mostFlags flags (h .1 .1 .1 .0);
       nodes = ltb-false (lent .nodes) nodeTrayLength (or-left (ltb (lent .nodes) nodeTrayLength) _ tray);
       formulas = ltb-false (lent .formulas) formulaTrayLength (or-left (ltb (lent .formulas) formulaTrayLength) _ short);
       edges = ltb-false (lent .edges) edgeTrayLength (or-right (ltb (lent .formulas) formulaTrayLength) _ short);

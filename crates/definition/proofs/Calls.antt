@@ -1,8 +1,9 @@
 -- The whole call: what its outcome tells of the run, and what it leaves of the trays.
-use mathlib.Core.Path.{_≡_, refl, ap}
+use mathlib.Core.Path.{_≡_, refl, sym, ap, _∙_}
 use mathlib.Core.Bool.{Bool, true, false, cond}
 use mathlib.Core.List.{List, [], _∷_}
 use mathlib.Core.Option.{Option, none, some}
+use mathlib.Core.Logic.{_↔_}
 use Prim.Native.Nat.{ℕ, zero, suc, _<_, _≤_, _+_, _*_, _/_, _^_}
 use native.Mathlib.Omega.{arith}
 use native.Mathlib.Nat.{pow-suc}
@@ -12,11 +13,12 @@ use Rattle.definition.specs.Lists.{Each, below}
 use Rattle.definition.specs.Records.{Rec, numberOf, recordAt, decode, recAt}
 use Rattle.definition.specs.Flags.{Flags, flagsOf}
 use Rattle.definition.specs.Checks.{Lengths, Check, refused}
-use Rattle.definition.specs.Run.{State, full, stops, final}
-use Rattle.definition.specs.Trays.{Trays, rowNumber, traysOf, zeroTrays}
-use Rattle.definition.specs.Call.{Outcome, Refused, Full, Ended, outcomeOfRun, outcomeBy, outcome, traysAfter, traysLeft, lengthsOf}
+use Rattle.definition.specs.Run.{State, full, stops, run, start, final}
+use Rattle.definition.specs.Trays.{Trays, rowNumber, traysOf, zeroTrays, laidOver}
+use Rattle.definition.specs.Call.{Outcome, Refused, Full, Ended, outcomeOfRun, outcomeBy, outcome, refusal, answerOf, answer, traysAfter, traysLeft, lengthsOf}
 use Rattle.definition.proofs.Lists.{each-both, each-any, each-of-map}
 use Rattle.definition.proofs.Accepted.{Accepted, accepted}
+use Rattle.definition.proofs.Forms.{WellFormed}
 use Rattle.definition.proofs.Bounds.{RecordFits, Bounded, run-bounded, bounded-formulas}
 use Rattle.definition.proofs.Fields.{Numbered, run-numbered}
 use Rattle.definition.proofs.TraysKept.{Sized, trays-sized, zero-sized, Kept, same-kept, laid-kept}
@@ -94,6 +96,12 @@ module _ (branch : List ℕ) (flags : ℕ) (lent : Lengths) (a : Accepted branch
       let h = final-bounded P (λ r k. tt) (each-any P (λ r. tt) rs) in
       trays-sized z (not-full z e) (bounded-formulas P (λ r k. tt) F (length rs) z h (a .few) e) (omega (arith, h .sizes .squared .rows, h .sizes .worlds))
 
+-- at every state of the run of an accepted branch, the links of each record are to earlier ones
+pub run-linked : (branch : List ℕ) (flags : ℕ) (lent : Lengths) → Accepted branch flags lent → (n : ℕ) → WellFormed (run n (flagsOf flags) (start (flagsOf flags) (decode branch)) .formulas)
+run-linked branch flags lent a n =
+    let P : Rec → Type 0 = λ r. Unit {0} in
+    run-bounded P (λ r k. tt) (flagsOf flags) (decode branch) n (a .few) (λ i l. a .records i l .links) (each-any P (λ r. tt) (decode branch)) .sizes .wf
+
 -- every call keeps each tray's length, and what lies beyond what it writes
 pub trays-kept : (branch : List ℕ) (flags : ℕ) (lent : Trays) → Kept lent (traysLeft branch flags lent)
 unfolding traysLeft traysAfter outcome outcomeBy outcomeOfRun
@@ -109,6 +117,27 @@ trays-kept branch flags lent = go (refused branch flags (lengthsOf lent)) refl
     go : (o : Option Check) → refused branch flags (lengthsOf lent) ≡ o → Kept lent (traysAfter (outcomeBy branch flags o) lent)
     go (some c) q = same-kept lent
     go none q = run (accepted branch flags (lengthsOf lent) q) (full y) refl
+
+-- an accepted branch is refused with 12 exactly if its run is full, and the trays are zeroed
+module _ (branch : List ℕ) (flags : ℕ) (lent : Trays) (e : refused branch flags (lengthsOf lent) ≡ none) where
+  abbrev y : State
+  y = final (flagsOf flags) (decode branch)
+
+  of-run : outcome branch flags (lengthsOf lent) ≡ outcomeOfRun y
+  unfolding outcome outcomeBy
+  of-run = rw e refl
+
+  pub twelve-full : (answer branch flags lent ≡ refusal 12 0) ↔ (full y ≡ true)
+  unfolding answer answerOf outcomeOfRun
+  twelve-full = (λ a. go (full y) refl (sym (ap answerOf of-run) ∙ a), λ f. ap answerOf of-run ∙ rw f refl)
+    where
+      go : (b : Bool) → full y ≡ b → answerOf (cond b Full (Ended y)) ≡ refusal 12 0 → full y ≡ true
+      go true q a = q
+      go false q a = let o : _≡_ {A = ℕ} 0 1 = cc in absurd (omega arith)
+
+  pub twelve-zeroes : answer branch flags lent ≡ refusal 12 0 → traysLeft branch flags lent ≡ laidOver zeroTrays lent
+  unfolding traysLeft traysAfter outcomeOfRun
+  twelve-zeroes a = ap (λ (o : Outcome). traysAfter o lent) of-run ∙ rw (twelve-full .0 a) refl
 
 -- a refusal before the run writes nothing
 pub refused-keeps : (branch : List ℕ) (flags : ℕ) (lent : Trays) (c : Check) → outcome branch flags (lengthsOf lent) ≡ Refused c → traysLeft branch flags lent ≡ lent

@@ -14,7 +14,7 @@ use Rattle.definition.specs.Records.{Rec, Non, is, numberOf, recAt, form
 use Rattle.definition.specs.Flags.{Flags}
 use Rattle.definition.specs.Tree.{Node, Root, Middle, nodeAt, placedBelow, leaves}
 use Rattle.definition.specs.Subtree.{Subtree, Targeted, flat, turned, numbered, copied, pushSubtree, appendSubtreeOnLeaf, appendCopies, appendOn, takes, appendSubtree, appendLogicRuleResult}
-use Rattle.definition.specs.Queue.{priorities, prioritiesOfNon, priorityOf, getNodePriority, Popped, popFirst, popClass, pop}
+use Rattle.definition.specs.Queue.{classes, priorities, prioritiesOfNon, priorityOf, getNodePriority, Popped, popFirst, popClass, pop}
 use Rattle.definition.specs.Contradiction.{pairs}
 use Rattle.definition.specs.Run.{State, apply, checkedForContradictions, checkForContradictions, appended, stepBy, step, ended, rooted, branchNodes, begun, start}
 use Rattle.definition.proofs.Lists.{true-false, and-left, and-right, or-left, or-right, cond-both, each-map, each-append, each-reverse, below-each}
@@ -135,7 +135,7 @@ module _ (P : ℕ → Type 0) where
 
   pub pop-out : (rs : List Rec) (t : List Node) (q : List ℕ) → Out q (pop rs t q)
   unfolding pop
-  pop-out rs t q = out-class rs t q (0 ∷ 1 ∷ 2 ∷ [])
+  pop-out rs t q = out-class rs t q classes
 
 -- every class is 0, 1 or 2: one computed test of each table
 low : (ns : List ℕ) → all (λ n. leb n 2) ns ≡ true → (i : ℕ) → getD ns i 0 ≤ 2

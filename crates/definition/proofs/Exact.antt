@@ -166,3 +166,17 @@ passes-full F rs n h = go (same-or-full k F (start F rs))
     go : (z ≡ run k F (start F rs)) ⊎ ((full (run k F (start F rs)) ≡ true) × (full z ≡ true)) → full (final F rs) ≡ true
     go (inl q) = sym (ap full (q ∙ e)) ∙ on
     go (inr q) = sym (ap full e) ∙ q .0
+
+unlimited-counted : (n : ℕ) (F : Flags) (s : State) → Counted s → Counted (unlimitedRun n F s)
+unfolding steps
+unlimited-counted zero F s h = h
+unlimited-counted (suc n) F s h = go (ended s) refl (λ e. unlimited-counted n F (step F s) (due F s e h .0))
+  where
+    go : (b : Bool) → ended s ≡ b → (ended s ≡ false → Counted (unlimitedRun n F (step F s))) → Counted (cond b s (unlimitedRun n F (step F s)))
+    go true e f = h
+    go false e f = f e
+
+-- at every state of the paper's loop, taken and waiting nodes are as many as identifiers
+pub run-counted : (n : ℕ) (F : Flags) (rs : List Rec) → let s = unlimitedRun n F (start F rs) in s .steps + length (s .waiting) ≡ length (s .nodes)
+unfolding Counted
+run-counted n F rs = unlimited-counted n F (start F rs) (start-counted F rs)

@@ -7,7 +7,7 @@ use mathlib.Core.Option.{Option, none, some}
 use Prim.Native.Nat.{ℕ, zero, suc, _<_, _≤_, _+_}
 use native.Mathlib.Omega.{arith}
 use lib.ListN.{length, length-append, length-map, List·getD-eq-default}
-use Rattle.definition.specs.Lists.{Each, filter, upFrom, empty}
+use Rattle.definition.specs.Lists.{Each, Distinct, filter, upFrom, empty}
 use Rattle.definition.specs.Records.{Rec, marks, nobody}
 use Rattle.definition.specs.Flags.{Flags}
 use Rattle.definition.specs.Tree.{Place, Root, Middle, Node, childless, isLeaf, newNode, nodeAt, placedBelow, linkChain, leaves}
@@ -17,7 +17,7 @@ use Rattle.definition.specs.Run.{State, apply, checkedForContradictions,
 use Rattle.definition.specs.Subtree.{Subtree, Targeted, withMiddle, flat, numbered, copied, appendSubtreeOnLeaf, pushSubtree, appendCopies, appendOn, takes, appendSubtree, appendLogicRuleResult}
 use Rattle.definition.proofs.Lists.{true-false, each-map, each-both, each-any, each-of-map, filter-keeps, upFrom-each, cond-both}
 use Rattle.definition.proofs.Nodes.{mark-keeps, length-marks, length-chain, length-leaf, node-append, ext-copies, ext-subtree, ext-result, blank}
-use Rattle.definition.proofs.Issued.{Distinct, rising-distinct, Issued, distinct-filter, ids-numbered, issued-le, issued-front, apply-issued}
+use Rattle.definition.proofs.Issued.{rising-distinct, Issued, distinct-filter, ids-numbered, issued-le, issued-front, apply-issued}
 use Rattle.definition.proofs.Made.{apply-each}
 use Rattle.definition.proofs.Treed.{Spot, spot, spots, nowhere, placed, childAt, In, Out, Child, Parent, Tree, Treed, Bare, in-range, in-out, leaves-bare, leaves-distinct, Unbounded, treed-unbounded}
 use Rattle.definition.proofs.Linking.{Free, leaf-other, bare-room, hang-treed}

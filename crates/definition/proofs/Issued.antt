@@ -7,7 +7,7 @@ use mathlib.Core.Logic.{⊎-elim, _≢_}
 use Prim.Native.Nat.{ℕ, zero, suc, _<_, _≤_, _+_}
 use native.Mathlib.Omega.{arith}
 use lib.ListN.{length, length-append, length-map, length-reverse}
-use Rattle.definition.specs.Lists.{Each, upFrom, filter}
+use Rattle.definition.specs.Lists.{Each, Distinct, upFrom, filter}
 use Rattle.definition.specs.Records.{Rec}
 use Rattle.definition.specs.Flags.{Flags}
 use Rattle.definition.specs.Graph.{Graph, initializeGraphIfNeeded}
@@ -17,10 +17,6 @@ use Rattle.definition.specs.Subtree.{Subtree, Targeted, withMiddle, with
 use Rattle.definition.specs.Modality.{Necessity, Fork, Made, occurs, giveOn, unvisited, leavesOf, reapplyNecessity, isReapplied, reapplyIfOnPath, reapplyNecessityAfterPossibility}
 use Rattle.definition.specs.Run.{State, LogicRuleResult, applyHere, applyPossibility, applyNecessity, applyRule, apply}
 use Rattle.definition.proofs.Lists.{alike, each-map, each-both, each-append, each-left, each-right, each-reverse, filter-keeps, upFrom-each, cond-both}
-
-abbrev pub Distinct : List ℕ → Type 0
-Distinct [] = Unit {0}
-Distinct (x ∷ xs) = Each (λ y. y ≢ x) xs × Distinct xs
 
 -- no element of the second list stands in the first
 abbrev pub Apart : List ℕ → List ℕ → Type 0

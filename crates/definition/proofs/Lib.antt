@@ -23,3 +23,4 @@ pub mod Growing
 pub mod Made
 pub mod Fields
 pub mod Calls
+pub mod Computed

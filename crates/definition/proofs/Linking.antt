@@ -8,13 +8,12 @@ use native.Mathlib.Omega.{arith}
 use lib.Dec.{eqb}
 use borrow.Author.Tests.{eqb-true, eq-eqb, ne-eqb}
 use lib.ListN.{length}
-use Rattle.definition.specs.Lists.{Each}
+use Rattle.definition.specs.Lists.{Each, Distinct}
 use Rattle.definition.specs.Records.{nobody, isNobody}
 use Rattle.definition.specs.Tree.{Place, Root, Left, Middle, Right, Unplaced, placeNumber, Children, Node, childless, nodeAt, placedBelow, setChild, withChild, change, link, linkChain, isLeaf}
 use Rattle.definition.specs.Subtree.{Subtree, flat, appendSubtreeOnLeaf}
 use Rattle.definition.proofs.Lists.{alike, and-left, and-right, each-map, each-both, each-left, each-right}
 use Rattle.definition.proofs.Nodes.{change-other, change-same, change-keeps, length-change, length-link}
-use Rattle.definition.proofs.Issued.{Distinct}
 use Rattle.definition.proofs.Treed.{Spot, spot, spots, placed, childAt, In, Out, Child, Parent, Treed, Bare, in-range, in-out, root-in}
 
 -- a place where a child can be

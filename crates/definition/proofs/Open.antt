@@ -8,13 +8,13 @@ use native.Mathlib.Omega.{arith}
 use lib.Dec.{eqb}
 use borrow.Author.Tests.{eq-eqb, ne-eqb}
 use lib.ListN.{length}
-use Rattle.definition.specs.Lists.{Each, elem}
+use Rattle.definition.specs.Lists.{Each, Distinct, elem}
 use Rattle.definition.specs.Records.{isNobody}
 use Rattle.definition.specs.Tree.{Node, Children, Place, Left, Middle, Right, nodeAt, placedBelow, setChild, withChild, change, link, linkChain, isLeaf, only, leavesBelow, upward, leaves, path}
 use Rattle.definition.specs.Subtree.{Subtree, withMiddle, flat, turned, appendSubtreeOnLeaf}
 use Rattle.definition.proofs.Lists.{true-false, cond-both, Some, each-map, each-both, each-left, each-right, some-append-left, some-append-right, elem-each, one-or-other, Full, full-reverse, each-reverse}
 use Rattle.definition.proofs.Nodes.{change-other, change-same, length-change, change-keeps, length-link, length-chain}
-use Rattle.definition.proofs.Issued.{Distinct, distinct-right, distinct-apart}
+use Rattle.definition.proofs.Issued.{distinct-right, distinct-apart}
 
 abbrev pub In : (ℕ → Bool) → ℕ → Type 0
 In S x = S x ≡ true

@@ -8,12 +8,12 @@ use native.Mathlib.Omega.{arith}
 use lib.Dec.{ltb}
 use borrow.Author.Tests.{ltb-true, ltb-false, ne-eqb}
 use lib.ListN.{length, List·getD-eq-default}
-use Rattle.definition.specs.Lists.{Each}
+use Rattle.definition.specs.Lists.{Each, Distinct}
 use Rattle.definition.specs.Records.{nobody, isNobody}
 use Rattle.definition.specs.Tree.{Place, Root, Left, Middle, Right, Unplaced, placeNumber, Children, Node, childless, nodeAt, isLeaf, only, leavesBelow, upward, leaves, path}
 use Rattle.definition.proofs.Lists.{true-false, either, alike, each-map, each-append}
 use Rattle.definition.proofs.Nodes.{blank}
-use Rattle.definition.proofs.Issued.{Distinct, Apart, distinct-append, apart-by, pigeonhole}
+use Rattle.definition.proofs.Issued.{Apart, distinct-append, apart-by, pigeonhole}
 
 -- where a node stands
 pub record Spot : Type 0 where

@@ -34,15 +34,31 @@ late s = leb mostWorlds (s .graph .worlds)
 
 -- "one verdict or one refusal": a refusal's number and record number; or
 -- "proved, late, and the counts of identifiers, formulas (input and made), worlds and steps"
+pub record Verdict : Type 0 where
+  pub proved : Bool
+  pub late : Bool
+  pub identifiers : ℕ
+  pub formulas : ℕ
+  pub worlds : ℕ
+  pub steps : ℕ
+
 pub data Answer : Type 0 where
   refusal : ℕ → ℕ → Answer
-  verdict : Bool → Bool → ℕ → ℕ → ℕ → ℕ → Answer
+  verdict : Verdict → Answer
 
 unfoldable pub answerOf : Outcome → Answer
 answerOf (Refused c) = refusal (c .number) (c .place)
 answerOf Full = refusal 12 0
 answerOf (Ended s) =
-    verdict (s .proved) (late s) (length (s .nodes)) (length (s .formulas)) (s .graph .worlds) (s .steps)
+    verdict
+    (record {
+      proved = s .proved;
+      late = late s;
+      identifiers = length (s .nodes);
+      formulas = length (s .formulas);
+      worlds = s .graph .worlds;
+      steps = s .steps;
+    })
 
 -- "Refusals 1 to 11 write nothing; 12 zeroes the three lengths"
 unfoldable pub traysAfter : Outcome → Trays → Trays

@@ -1,56 +1,30 @@
--- "Starred cases are the table to prove": one table, and one theorem over it.
-use mathlib.Core.Path.{_≡_, refl}
+-- "Starred cases are the table to prove": one table, and one claim over it, proved in proofs/Computed.
+use mathlib.Core.Path.{_≡_}
 use mathlib.Core.Bool.{Bool, true, false, cond}
 use mathlib.Core.List.{List, [], _∷_, _++_, map}
 use Prim.Native.Nat.{ℕ, suc}
-use lib.ListN.{length}
+use lib.ListN.{replicate}
 use Rattle.definition.specs.Limits.{nodeTrayLength, formulaTrayLength, edgeTrayLength}
 use Rattle.definition.specs.Lists.{concatMap}
-use Rattle.definition.specs.Records
-use Rattle.definition.specs.Checks
 use Rattle.definition.specs.Checks.{Lengths}
-use Rattle.definition.specs.Flags
-use Rattle.definition.specs.Graph
-use Rattle.definition.specs.Tree
 use Rattle.definition.specs.Tree.{Node, isContradictory}
-use Rattle.definition.specs.Rules
-use Rattle.definition.specs.Subtree
-use Rattle.definition.specs.Modality
-use Rattle.definition.specs.Queue
-use Rattle.definition.specs.Contradiction
-use Rattle.definition.specs.Run
-use Rattle.definition.specs.Call
-use Rattle.definition.specs.Call.{Outcome, Refused, Full, Ended, outcome, late}
+use Rattle.definition.specs.Trays.{Trays, laidOver}
+use Rattle.definition.specs.Call.{Outcome, Refused, Full, Ended, outcome, Answer, refusal, verdict, answer, lengthsOf, traysLeft}
 
--- what the paper says of a case: the refusal's number and place; or proved, late, identifiers, worlds, steps, and the marked nodes, each with its contrarian
-pub data Expected : Type 0 where
-  refusal : ℕ → ℕ → Expected
-  run : Bool → Bool → ℕ → ℕ → ℕ → List ℕ → Expected
-
--- node i and its contrarian, for each marked node from i on
-unfoldable pub marksFrom : ℕ → List Node → List ℕ
-marksFrom i [] = []
-marksFrom i (x ∷ xs) = cond (isContradictory x) (i ∷ x .contrarian ∷ []) [] ++ marksFrom (suc i) xs
-
-unfoldable pub seen : Outcome → Expected
-seen (Refused c) = refusal (c .number) (c .place)
-seen Full = refusal 12 0
-seen (Ended s) = run (s .proved) (late s) (length (s .nodes)) (s .graph .worlds) (s .steps) (marksFrom 0 (s .nodes))
-
+-- what enters, what is answered, and the contradictory nodes, each with its contrarian. The paper says the verdict of each case, and of some
+-- counts and marks; the others follow from its rules by hand
 pub record Case : Type 0 where
   pub records : List (List ℕ)
   pub flags : ℕ
-  pub expected : Expected
+  pub answered : Answer
+  pub contradictory : List ℕ
 
-abbrev pub case : List (List ℕ) → ℕ → Expected → Case
-case rs n e = record { records = rs; flags = n; expected = e }
+abbrev pub bytes : List (List ℕ) → List ℕ
+bytes = concatMap (λ r. r)
 
 -- a record by its kind, mark and fields below 256
 abbrev pub rec : ℕ → ℕ → ℕ → ℕ → List ℕ
 rec k m a b = k ∷ m ∷ a ∷ 0 ∷ b ∷ 0 ∷ []
-
-abbrev pub lent : Lengths
-lent = record { nodes = nodeTrayLength; formulas = formulaTrayLength; edges = edgeTrayLength }
 
 -- "Necessary p, Non p"
 abbrev pub listing : List (List ℕ)
@@ -64,39 +38,57 @@ clash = rec 0 1 0 0 ∷ rec 1 1 0 0 ∷ []
 abbrev pub deadEnd : List (List ℕ)
 deadEnd = rec 0 0 0 0 ∷ rec 8 1 0 0 ∷ rec 1 1 0 0 ∷ rec 0 0 1 0 ∷ rec 7 0 3 0 ∷ rec 0 0 2 0 ∷ rec 3 1 4 5 ∷ []
 
+-- proved, and the counts of identifiers, formulas, worlds and steps; none of them is late
+abbrev pub ends : Bool → ℕ → ℕ → ℕ → ℕ → Answer
+ends p i f w s = verdict (record { proved = p; late = false; identifiers = i; formulas = f; worlds = w; steps = s })
+
+abbrev pub case : List (List ℕ) → ℕ → Answer → List ℕ → Case
+case rs n a c = record { records = rs; flags = n; answered = a; contradictory = c }
+
 abbrev pub table : List Case
 table =
-    case listing 0 (run false false 2 1 2 [])
-    ∷ case listing 1 (run true false 3 1 1 (2 ∷ 1 ∷ []))
-    ∷ case clash 0 (run true false 2 0 0 (1 ∷ 0 ∷ []))
-    ∷ case clash 8 (run false false 2 0 2 [])
-    ∷ case (rec 0 1 0 0 ∷ []) 0 (run false false 1 0 1 [])
-    ∷ case [] 0 (refusal 2 0)
-    ∷ case (rec 0 1 0 0 ∷ (0 ∷ []) ∷ []) 0 (refusal 1 0)
-    ∷ case (rec 0 1 0 0 ∷ []) 16 (refusal 4 0)
-    ∷ case (rec 0 0 0 0 ∷ rec 8 1 0 0 ∷ rec 1 0 0 0 ∷ rec 7 1 2 0 ∷ []) 0 (run true false 5 2 2 (4 ∷ 2 ∷ []))
-    ∷ case deadEnd 6 (run true false 10 2 3 (7 ∷ 1 ∷ 9 ∷ 1 ∷ []))
+    case listing 0 (ends false 2 3 1 2) []
+    ∷ case listing 1 (ends true 3 3 1 1) (2 ∷ 1 ∷ [])
+    ∷ case clash 0 (ends true 2 2 0 0) (1 ∷ 0 ∷ [])
+    ∷ case clash 8 (ends false 2 2 0 2) []
+    ∷ case (rec 0 1 0 0 ∷ []) 0 (ends false 1 1 0 1) []
+    ∷ case [] 0 (refusal 2 0) []
+    ∷ case (rec 0 1 0 0 ∷ (0 ∷ []) ∷ []) 0 (refusal 1 0) []
+    ∷ case (rec 0 1 0 0 ∷ []) 16 (refusal 4 0) []
+    ∷ case (rec 0 0 0 0 ∷ rec 8 1 0 0 ∷ rec 1 0 0 0 ∷ rec 7 1 2 0 ∷ []) 0 (ends true 5 4 2 2) (4 ∷ 2 ∷ [])
+    ∷ case deadEnd 6 (ends true 10 7 2 3) (7 ∷ 1 ∷ 9 ∷ 1 ∷ [])
     ∷ []
 
--- the outcome of a case; to unfold this is to unfold the whole definition of a call
-unfoldable pub computed : List ℕ → ℕ → Lengths → Outcome
-unfolding
-    outcome Call.outcomeBy Call.outcomeOfRun Flags.flagsOf
-    Records.kindOf Records.numberOf Records.arity Records.recordAt Records.decode Records.recAt Records.formulaOf Records.marksFrom
-    Checks.expandedSize Checks.strayField Checks.recordChecks Checks.checks Checks.refused
-    Graph.edge Graph.graphOf Graph.emptyGraph Graph.addMissingReflexiveVertices Graph.addMissingSymmetricVertices Graph.paired Graph.addMissingTransitiveVertices Graph.addMissingGraphVertices Graph.initializeGraphIfNeeded Graph.fork Graph.reached
-    Tree.setChild Tree.isContradictory Tree.link Tree.linkChain Tree.isLeaf Tree.only Tree.leavesBelow Tree.upward Tree.leaves Tree.path
-    Rules.nonExpansion Rules.expansionBy Rules.expansion
-    Subtree.flat Subtree.turned Subtree.numbered Subtree.appendSubtreeOnLeaf Subtree.pushSubtree Subtree.appendCopies Subtree.appendOn Subtree.takes Subtree.appendSubtree Subtree.appendLogicRuleResult
-    Modality.runsThrough Modality.forkedOn Modality.occurs Modality.unvisited Modality.giveOn Modality.leavesOf Modality.reapplyNecessity Modality.visiting Modality.isReapplied Modality.reapplyIfOnPath Modality.reapplyNecessityAfterPossibility Modality.necessitiesAfterPossibility
-    Queue.priorityOf Queue.getNodePriority Queue.popFirst Queue.popClass Queue.pop
-    Contradiction.atomOf Contradiction.atomsOf Contradiction.said Contradiction.denied Contradiction.opposed Contradiction.areFormulasContradictory Contradiction.areNodesContradictory Contradiction.getContradictoryNodeIds Contradiction.isPair Contradiction.mark Contradiction.markAll Contradiction.pairs
-    Run.applyHere Run.applyPossibility Run.applyNecessity Run.applyRule Run.apply Run.checkedForContradictions Run.checkForContradictions Run.appended Run.stepBy Run.step Run.ended Run.full Run.steps Run.stops Run.rooted Run.branchNodes Run.begun Run.start Run.final
-computed bytes flags lent = outcome bytes flags lent
+abbrev pub exactly : Lengths
+exactly = record { nodes = nodeTrayLength; formulas = formulaTrayLength; edges = edgeTrayLength }
 
-abbrev pub result : Case → Expected
-result c = seen (computed (concatMap (λ r. r) (c .records)) (c .flags) lent)
+-- node i and its contrarian, for each contradictory node from i on
+unfoldable pub contradictoryFrom : ℕ → List Node → List ℕ
+contradictoryFrom i [] = []
+contradictoryFrom i (x ∷ xs) = cond (isContradictory x) (i ∷ x .contrarian ∷ []) [] ++ contradictoryFrom (suc i) xs
 
-pub starred : map result table ≡ map (λ (c : Case). c .expected) table
-unfolding computed seen marksFrom late
-starred = refl
+unfoldable pub contradictoryIn : Outcome → List ℕ
+contradictoryIn (Refused c) = []
+contradictoryIn Full = []
+contradictoryIn (Ended s) = contradictoryFrom 0 (s .nodes)
+
+-- the call on each case of the table, with any trays of the paper's lengths
+pub record Starred : Type 0 where
+  pub answers : (lent : Trays) → lengthsOf lent ≡ exactly → map (λ (c : Case). answer (bytes (c .records)) (c .flags) lent) table ≡ map (λ (c : Case). c .answered) table
+  pub marked : map (λ (c : Case). contradictoryIn (outcome (bytes (c .records)) (c .flags) exactly)) table ≡ map (λ (c : Case). c .contradictory) table
+
+-- the trays of the listing with flags 1, byte by byte: three nodes, three formulas, one edge
+abbrev pub listingTrays : Trays
+listingTrays =
+    record {
+      nodes =
+          (255 ∷ 255 ∷ 0 ∷ 0 ∷ 1 ∷ 0 ∷ 255 ∷ 255 ∷ 255 ∷ 255 ∷ 0 ∷ 0 ∷ [])
+          ++ (0 ∷ 0 ∷ 2 ∷ 0 ∷ 2 ∷ 0 ∷ 255 ∷ 255 ∷ 255 ∷ 255 ∷ 0 ∷ 0 ∷ [])
+          ++ (1 ∷ 0 ∷ 2 ∷ 0 ∷ 0 ∷ 0 ∷ 0 ∷ 0 ∷ 1 ∷ 0 ∷ 1 ∷ 0 ∷ [])
+          ++ replicate 6108 0;
+      formulas = rec 0 0 0 0 ++ (rec 8 1 0 0 ++ (rec 1 1 0 0 ++ replicate 7662 0));
+      edges = 1 ∷ replicate 24 0;
+    }
+
+abbrev pub ListingTrays : Type 0
+ListingTrays = (lent : Trays) → lengthsOf lent ≡ exactly → traysLeft (bytes listing) 1 lent ≡ laidOver listingTrays lent

@@ -5,7 +5,7 @@ use mathlib.Core.Option.{Option}
 use Prim.Native.Nat.{ℕ, suc, _/_, _%_}
 use lib.Dec.{eqb, ltb, leb}
 use lib.ListN.{length, getD}
-use Rattle.definition.specs.Limits.{mostRecords, mostSize, mostMarked, nodeTrayLength, formulaTrayLength, edgeTrayLength}
+use Rattle.definition.specs.Limits.{recordLength, mostRecords, mostSize, mostFlags, mostMarked, nodeTrayLength, formulaTrayLength, edgeTrayLength}
 use Rattle.definition.specs.Lists.{any, find, empty, sum}
 use Rattle.definition.specs.Records.{Rec, decode, links, numberOf, marks}
 
@@ -29,17 +29,17 @@ unfoldable pub expandedSize : List ℕ → Rec → ℕ
 expandedSize sizes r = suc (sum (map (λ l. getD sizes l 0) (links r)))
 
 -- a field that the table says is zero is not
-unfoldable pub strayField : Rec → Bool
-strayField r = ltb (length (links r)) 2 && not (eqb (r .right) 0)
+unfoldable pub nonZeroField : Rec → Bool
+nonZeroField r = ltb (length (links r)) 2 && not (eqb (r .right) 0)
 
--- "record by record 6 to 9": the sizes are those of the records before, and so many is the record's number
+-- "record by record 6 to 9": `sizes` are those of the records before, whose count is the record's number
 unfoldable pub recordChecks : List ℕ → List Rec → List Check
 recordChecks sizes [] = []
 recordChecks sizes (r ∷ rs) =
     let i = length sizes in
     let size = expandedSize sizes r in
     check 6 i (ltb 8 (numberOf (r .kind)))
-    ∷ check 7 i (ltb 1 (r .mark) || strayField r)
+    ∷ check 7 i (ltb 1 (r .mark) || nonZeroField r)
     ∷ check 8 i (any (leb i) (links r))
     ∷ check 9 i (ltb mostSize size)
     ∷ recordChecks (sizes ++ (size ∷ [])) rs
@@ -50,10 +50,10 @@ unfoldable pub checks : List ℕ → ℕ → Lengths → List Check
 checks bytes flags lent =
     let n = length bytes in
     let rs = decode bytes in
-    check 1 0 (not (eqb (n % 6) 0))
+    check 1 0 (not (eqb (n % recordLength) 0))
     ∷ check 2 0 (eqb n 0)
-    ∷ check 3 0 (ltb mostRecords (n / 6))
-    ∷ check 4 0 (leb 16 flags)
+    ∷ check 3 0 (ltb mostRecords (n / recordLength))
+    ∷ check 4 0 (ltb mostFlags flags)
     ∷ check 5 0 (ltb (lent .nodes) nodeTrayLength || (ltb (lent .formulas) formulaTrayLength || ltb (lent .edges) edgeTrayLength))
     ∷ (recordChecks [] rs ++ (check 10 0 (empty (marks rs)) ∷ check 11 0 (ltb mostMarked (length (marks rs))) ∷ []))
 

@@ -1,4 +1,4 @@
--- Demand 3, whole: "if a verdict is returned in which `proved` is true, late beside it or not, then no world of any finite Kripke model
+-- Demand 3, whole, of the defined call: "if a verdict is returned in which `proved` is true, late beside it or not, then no world of any finite Kripke model
 -- with the flagged properties (..), however large, makes every formula of the branch true. Where the flags are symmetric and transitive
 -- without reflexive, that is claimed only of the worlds that reach some world, be it themselves."
 use mathlib.Core.Path.{_≡_}
@@ -15,7 +15,7 @@ use Rattle.definition.specs.Call.{Answer, refusal, verdict, answer}
 
 abbrev pub Proved : Answer → Type 0
 Proved (refusal number place) = ⊥
-Proved (verdict proved late identifiers formulas worlds steps) = proved ≡ true
+Proved (verdict v) = v .proved ≡ true
 
 -- the world w, where the flags ask for it, reaches some world
 abbrev pub Reaching : Flags → Model → ℕ → Type 0

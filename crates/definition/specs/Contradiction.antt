@@ -32,7 +32,8 @@ module _ (rs : List Rec) where
   unfoldable pub denied : Rec → List ℕ
   denied r = cond (is Non r) (atomsOf (inner r)) []
 
--- one says what the other denies
+-- one says what the other denies: an atom gives one number, an equivalence two, so that no pair arises but "an atom and its negation;
+-- Non Non atom and Non atom; BiImply of two atoms and its negation"
 unfoldable pub opposed : List ℕ → List ℕ → Bool
 opposed xs ys = not (empty xs) && same xs ys
 

@@ -36,7 +36,7 @@ paired g u w v = edge g u v && (edge g v w && not (eqb u v && eqb v w))
 unfoldable pub addMissingTransitiveVertices : Graph → Graph
 addMissingTransitiveVertices g = graphOf (g .worlds) (λ u w. edge g u w || any (paired g u w) (below (g .worlds)))
 
--- "Reflexive, symmetric, transitive, in that order if flagged"
+-- "Reflexive, symmetric, transitive, in that order if flagged"; "No scan is repeated"
 unfoldable pub addMissingGraphVertices : Flags → Graph → Graph
 addMissingGraphVertices F g =
     let r = cond (F .reflexive) (addMissingReflexiveVertices g) g in
@@ -47,11 +47,14 @@ addMissingGraphVertices F g =
 unfoldable pub initializeGraphIfNeeded : Flags → Graph → Graph
 initializeGraphIfNeeded F g = cond (eqb (g .worlds) 0) (addMissingGraphVertices F (graphOf 1 (λ u v. false))) g
 
--- "A fork is the largest index plus one over the whole graph": the worlds are the numbers below their count.
+-- "A fork is the largest index plus one over the whole graph": the worlds are the numbers below their count
+abbrev pub forkedWorld : Graph → ℕ
+forkedWorld g = g .worlds
+
 -- "The edge from the current world comes first, then missing edges"
 unfoldable pub fork : Flags → Graph → ℕ → Graph
 fork F g u =
-    addMissingGraphVertices F (graphOf (suc (g .worlds)) (λ a b. edge g a b || (eqb a u && eqb b (g .worlds))))
+    addMissingGraphVertices F (graphOf (suc (g .worlds)) (λ a b. edge g a b || (eqb a u && eqb b (forkedWorld g))))
 
 -- the worlds that u reaches, "in rising order"
 unfoldable pub reached : Graph → ℕ → List ℕ

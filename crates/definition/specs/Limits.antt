@@ -1,5 +1,9 @@
--- The limits of the paper and the lengths of its trays, each named here and nowhere else.
+-- The limits of the paper, and the lengths of its records and trays. Code has the same numbers in src/lib.rt.
 use Prim.Native.Nat.{ℕ}
+
+-- "a branch is a run of 6-byte records"
+abbrev pub recordLength : ℕ
+recordLength = 6
 
 -- "overlong: more than 256 records"
 abbrev pub mostRecords : ℕ
@@ -8,6 +12,10 @@ mostRecords = 256
 -- "oversize: expanded size above 4,096"
 abbrev pub mostSize : ℕ
 mostSize = 4096
+
+-- "bad tick: flags above 15"
+abbrev pub mostFlags : ℕ
+mostFlags = 15
 
 -- "crowded: more than 64 marked"
 abbrev pub mostMarked : ℕ
@@ -27,6 +35,10 @@ nodeTrayLength = 6144
 
 abbrev pub formulaTrayLength : ℕ
 formulaTrayLength = 7680
+
+-- so many records fill the formula tray
+abbrev pub mostFormulas : ℕ
+mostFormulas = 1280
 
 abbrev pub edgeTrayLength : ℕ
 edgeTrayLength = 25

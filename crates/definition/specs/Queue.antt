@@ -17,6 +17,10 @@ priorities = 2 ∷ 0 ∷ 0 ∷ 1 ∷ 1 ∷ 1 ∷ 0 ∷ 0 ∷ 0 ∷ []
 abbrev pub prioritiesOfNon : List ℕ
 prioritiesOfNon = 2 ∷ 0 ∷ 1 ∷ 0 ∷ 0 ∷ 1 ∷ 0 ∷ 0 ∷ 0 ∷ []
 
+-- "the most urgent" first
+abbrev pub classes : List ℕ
+classes = 0 ∷ 1 ∷ 2 ∷ []
+
 -- "Atomic and Non Atomic last; Or, Non And, Imply, BiImply, Non BiImply in the middle; all others, comments included, first"
 unfoldable pub priorityOf : List Rec → Rec → ℕ
 priorityOf rs r =
@@ -46,4 +50,4 @@ popClass rs t q (c ∷ cs) =
 
 -- "The first waiting node of the most urgent class is taken out"
 unfoldable pub pop : List Rec → List Node → List ℕ → Option Popped
-pop rs t q = popClass rs t q (0 ∷ 1 ∷ 2 ∷ [])
+pop rs t q = popClass rs t q classes

@@ -4,6 +4,7 @@ use mathlib.Core.List.{List, [], _∷_, map}
 use Prim.Native.Nat.{ℕ, suc, _+_, _*_, _/_}
 use lib.Dec.{eqb}
 use lib.ListN.{length, getD, take}
+use Rattle.definition.specs.Limits.{recordLength}
 use Rattle.definition.specs.Lists.{below}
 
 -- "65535 means no parent, no spawner, no contrarian, or a comment node's formula"; here also no child
@@ -53,11 +54,11 @@ links r = take (arity (r .kind)) (r .left ∷ r .right ∷ [])
 -- record number i of the bytes; "a branch is a run of 6-byte records, no header"
 unfoldable pub recordAt : List ℕ → ℕ → Rec
 recordAt bytes i =
-    let byte : ℕ → ℕ = λ j. getD bytes (6 * i + j) 0 in
+    let byte : ℕ → ℕ = λ j. getD bytes (recordLength * i + j) 0 in
     record { kind = kindOf (byte 0); mark = byte 1; left = byte 2 + 256 * byte 3; right = byte 4 + 256 * byte 5 }
 
 unfoldable pub decode : List ℕ → List Rec
-decode bytes = map (recordAt bytes) (below (length bytes / 6))
+decode bytes = map (recordAt bytes) (below (length bytes / recordLength))
 
 -- a record that a rule makes: "with mark 0"
 abbrev pub made : Kind → ℕ → ℕ → Rec

@@ -1,11 +1,12 @@
--- Refusals 1 to 11 computed: each with its place, and each beside the next check where both can apply.
-use mathlib.Core.Path.{_≡_, refl}
+-- Refusals 1 to 11: each with its place, and each beside the next check where both can apply. Proved in proofs/Computed.
+use mathlib.Core.Path.{_≡_}
 use mathlib.Core.List.{List, [], _∷_, _++_, map}
 use Prim.Native.Nat.{ℕ}
-use lib.ListN.{replicate}
-use Rattle.definition.specs.Lists.{concatMap, upFrom}
+use lib.ListN.{replicate, drop}
+use Rattle.definition.specs.Lists.{upFrom}
 use Rattle.definition.specs.Checks.{Lengths}
-use Rattle.definition.specs.Cases.{Expected, refusal, rec, lent, computed, seen, marksFrom}
+use Rattle.definition.specs.Call.{refusal, answerOf, outcome}
+use Rattle.definition.specs.Cases.{rec, bytes, exactly}
 
 pub record Bad : Type 0 where
   pub records : List (List ℕ)
@@ -36,37 +37,34 @@ doubling n = rec 0 1 0 0 ∷ map (λ i. rec 2 0 i i) (upFrom n 0)
 
 abbrev pub table : List Bad
 table =
-    bad (marked ∷ (0 ∷ []) ∷ []) 0 lent 1 0
+    bad (marked ∷ (0 ∷ []) ∷ []) 0 exactly 1 0
     ∷ bad ((0 ∷ []) ∷ []) 16 shortNodes 1 0
-    ∷ bad [] 0 lent 2 0
+    ∷ bad [] 0 exactly 2 0
     ∷ bad [] 16 shortEdges 2 0
-    ∷ bad (replicate 257 marked) 0 lent 3 0
-    ∷ bad (replicate 257 marked ++ ((0 ∷ []) ∷ [])) 0 lent 1 0
-    ∷ bad (replicate 257 marked) 16 lent 3 0
-    ∷ bad (marked ∷ []) 16 lent 4 0
+    ∷ bad (replicate 257 marked) 0 exactly 3 0
+    ∷ bad (replicate 257 marked ++ ((0 ∷ []) ∷ [])) 0 exactly 1 0
+    ∷ bad (replicate 257 marked) 16 exactly 3 0
+    ∷ bad (marked ∷ []) 16 exactly 4 0
     ∷ bad (marked ∷ []) 255 shortFormulas 4 0
     ∷ bad (marked ∷ []) 15 shortNodes 5 0
     ∷ bad (marked ∷ []) 0 shortFormulas 5 0
     ∷ bad (rec 9 1 0 0 ∷ []) 0 shortEdges 5 0
-    ∷ bad (marked ∷ rec 9 1 0 0 ∷ []) 0 lent 6 1
-    ∷ bad (marked ∷ marked ∷ rec 255 2 0 7 ∷ []) 0 lent 6 2
-    ∷ bad (marked ∷ rec 1 2 0 0 ∷ []) 0 lent 7 1
-    ∷ bad (rec 0 1 0 1 ∷ []) 0 lent 7 0
-    ∷ bad (marked ∷ rec 8 1 0 3 ∷ []) 0 lent 7 1
-    ∷ bad (marked ∷ rec 2 2 1 1 ∷ []) 0 lent 7 1
-    ∷ bad (rec 1 1 0 0 ∷ []) 0 lent 8 0
-    ∷ bad (marked ∷ rec 3 0 0 1 ∷ []) 0 lent 8 1
-    ∷ bad (doubling 11 ++ (rec 1 0 11 0 ∷ rec 2 0 12 13 ∷ [])) 0 lent 8 13
-    ∷ bad (doubling 12) 0 lent 9 12
-    ∷ bad (doubling 12 ++ (rec 9 0 0 0 ∷ [])) 0 lent 9 12
-    ∷ bad (rec 0 0 0 0 ∷ rec 9 0 0 0 ∷ []) 0 lent 6 1
-    ∷ bad (rec 0 0 0 0 ∷ rec 1 0 0 0 ∷ []) 0 lent 10 0
-    ∷ bad (replicate 65 marked) 0 lent 11 0
+    ∷ bad (marked ∷ rec 9 1 0 0 ∷ []) 0 exactly 6 1
+    ∷ bad (marked ∷ marked ∷ rec 255 2 0 7 ∷ []) 0 exactly 6 2
+    ∷ bad (marked ∷ rec 1 2 0 0 ∷ []) 0 exactly 7 1
+    ∷ bad (rec 0 1 0 1 ∷ []) 0 exactly 7 0
+    ∷ bad (marked ∷ rec 8 1 0 3 ∷ []) 0 exactly 7 1
+    ∷ bad (marked ∷ rec 2 2 1 1 ∷ []) 0 exactly 7 1
+    ∷ bad (rec 1 1 0 0 ∷ []) 0 exactly 8 0
+    ∷ bad (marked ∷ rec 3 0 0 1 ∷ []) 0 exactly 8 1
+    ∷ bad (doubling 11 ++ (rec 1 0 11 0 ∷ rec 2 0 12 13 ∷ [])) 0 exactly 8 13
+    ∷ bad (doubling 12) 0 exactly 9 12
+    ∷ bad (doubling 12 ++ (rec 9 0 0 0 ∷ [])) 0 exactly 9 12
+    ∷ bad (rec 0 0 0 0 ∷ drop 1 (doubling 12)) 0 exactly 9 12
+    ∷ bad (rec 0 0 0 0 ∷ rec 9 0 0 0 ∷ []) 0 exactly 6 1
+    ∷ bad (rec 0 0 0 0 ∷ rec 1 0 0 0 ∷ []) 0 exactly 10 0
+    ∷ bad (replicate 65 marked) 0 exactly 11 0
     ∷ []
 
-abbrev pub answered : Bad → Expected
-answered b = seen (computed (concatMap (λ r. r) (b .records)) (b .flags) (b .lent))
-
-pub refusals : map answered table ≡ map (λ (b : Bad). refusal (b .number) (b .place)) table
-unfolding computed seen marksFrom
-refusals = refl
+abbrev pub Refusals : Type 0
+Refusals = map (λ (b : Bad). answerOf (outcome (bytes (b .records)) (b .flags) (b .lent))) table ≡ map (λ (b : Bad). refusal (b .number) (b .place)) table

@@ -1,4 +1,4 @@
--- "The run": the rule of a node applied, the start, a step, and the steps until none is due. The names are proof.rs's.
+-- "The run": the rule of a node applied, the start, a step, and the steps until none is due. The names are those of proof.rs, logic.rs, tree.rs and common_modal_logic.rs.
 use mathlib.Core.Bool.{Bool, false, _||_, cond}
 use mathlib.Core.List.{List, [], _∷_, _++_, map, reverse}
 use mathlib.Core.Option.{Option, none, some}
@@ -9,7 +9,7 @@ use Rattle.definition.specs.Limits.{mostIdentifiers, mostWorlds}
 use Rattle.definition.specs.Lists.{upFrom, below, all, elem, filter, empty}
 use Rattle.definition.specs.Records.{Rec, marks, nobody}
 use Rattle.definition.specs.Flags.{Flags}
-use Rattle.definition.specs.Graph.{Graph, emptyGraph, initializeGraphIfNeeded, fork}
+use Rattle.definition.specs.Graph.{Graph, emptyGraph, initializeGraphIfNeeded, forkedWorld, fork}
 use Rattle.definition.specs.Tree.{Node, Root, Middle, newNode, nodeAt, placedBelow, linkChain, leaves, path}
 use Rattle.definition.specs.Rules.{Rule, nothing, down, split, asPossible, asNecessary, expansion}
 use Rattle.definition.specs.Subtree.{Subtree, Targeted, withMiddle, withLeftRight, flat, turned, numbered, appendLogicRuleResult}
@@ -46,11 +46,11 @@ applyHere s x more fs =
       subtrees = record { target = x; subtree = turned (numbered (length (s .nodes)) fs) } ∷ [];
     }
 
--- "Possible": "The formula takes its identifier before its comment; the comment stands above"; then the stored necessities
+-- "Possible": "The formula takes its identifier before its comment; the comment stands above", "A comment has world 0"; then the stored necessities
 unfoldable pub applyPossibility : Flags → State → ℕ → List Rec → ℕ → LogicRuleResult
 applyPossibility F s x more f =
     let g = initializeGraphIfNeeded F (s .graph) in
-    let v = g .worlds in
+    let v = forkedWorld g in
     let n = length (s .nodes) in
     let k : Fork = record { node = x; world = v } in
     let forked = fork F g (nodeAt (s .nodes) x .world) in

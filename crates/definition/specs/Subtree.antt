@@ -1,4 +1,4 @@
--- Subtrees, and "Placing". The names are subtree.rs's.
+-- Subtrees, and "Placing". The names are subtree.rs's, tree.rs's and decomposition_queue.rs's.
 use mathlib.Core.Bool.{Bool, not, _&&_}
 use mathlib.Core.List.{List, [], _∷_, _++_, map, reverse}
 use Prim.Native.Nat.{ℕ, _+_}
@@ -45,7 +45,7 @@ pub record Placed : Type 0 where
   pub nodes : List Node
   pub waiting : List ℕ
 
--- "the original's left, middle, right", of each chain the children before the node itself
+-- "the original's left, middle, right", of each chain the children before the node itself; "each identifier once": proofs/Count
 unfoldable pub pushSubtree : List ℕ → Subtree → List ℕ
 pushSubtree q s = q ++ flat (turned s)
 

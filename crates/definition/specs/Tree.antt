@@ -1,4 +1,4 @@
--- Nodes, listed by identifier and linked by numbers; paths and their leaves. The names are node.rs's and path.rs's.
+-- Nodes, listed by identifier and linked by numbers; paths and their leaves. `isContradictory` is node.rs's name.
 use mathlib.Core.Bool.{Bool, cond, _&&_, not}
 use mathlib.Core.List.{List, [], _∷_, _++_}
 use Prim.Native.Nat.{ℕ, zero, suc}

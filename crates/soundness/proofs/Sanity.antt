@@ -5,17 +5,18 @@ use mathlib.Core.List.{List}
 use Prim.Native.Nat.{ℕ, _<_}
 use native.Mathlib.Omega.{arith}
 use lib.Dec.{eqb}
-use Rattle.definition.specs.Lists.{Each, concatMap}
+use Rattle.definition.specs.Lists.{Each}
 use Rattle.definition.specs.Records
 use Rattle.definition.specs.Records.{decode, marks}
 use Rattle.definition.specs.Formula
 use Rattle.definition.specs.Formula.{formAt}
 use Rattle.definition.specs.Flags.{flagsOf}
 use Rattle.definition.specs.Models.{Model, Has, truth}
-use Rattle.definition.specs.Call.{answerOf, answer, outcome}
+use Rattle.definition.specs.Call.{answerOf}
 use Rattle.definition.specs.Claim.{Proved}
-use Rattle.definition.specs.Cases.{deadEnd, lent, computed}
+use Rattle.definition.specs.Cases.{bytes, deadEnd, exactly}
 use Rattle.definition.proofs.Lists.{true-false}
+use Rattle.definition.proofs.Computed.{computed, same-answer}
 use Rattle.soundness.specs.Claims.{ModelsExist, DeadEnd}
 
 -- one world that reaches itself
@@ -29,8 +30,8 @@ models-exist F value = (
 )
 
 -- the starred branch with flags 6
-abbrev pub branch : List ℕ
-branch = concatMap (λ r. r) deadEnd
+abbrev branch : List ℕ
+branch = bytes deadEnd
 
 -- one world that reaches nothing, where r alone is true
 lonely : Model
@@ -48,17 +49,16 @@ lonely-holds : Each (λ f. truth lonely (formAt (decode branch) f) 0 ≡ true) (
 unfolding lonely truth decode Records.recordAt Records.kindOf Records.marksFrom Formula.formBy Formula.written Formula.formsAfter
 lonely-holds = (refl, (refl, (refl, tt)))
 
-proved-there : Proved (answerOf (computed branch 6 lent))
+lonely-reaches : (v : ℕ) → lonely .reach 0 v ≡ false
+unfolding lonely
+lonely-reaches v = refl
+
+proved-there : Proved (answerOf (computed branch 6 exactly))
 unfolding computed answerOf
 proved-there = refl
 
-same-outcome : outcome branch 6 lent ≡ computed branch 6 lent
-unfolding computed
-same-outcome = refl
-
-pub dead-end : DeadEnd branch
-unfolding answer
+pub dead-end : DeadEnd
 dead-end = (
-  λ t e. rw (e, same-outcome) proved-there,
-  (lonely, lonely-has, lonely-size, lonely-holds),
+  λ t e. rw (same-answer branch 6 t e) proved-there,
+  (lonely, lonely-has, lonely-size, lonely-reaches, lonely-holds),
 )

@@ -1,5 +1,5 @@
 -- The claims of specs/Claims, proved from the laws of crates/definition.
-use mathlib.Core.Path.{_≡_, refl, _∙_, subst}
+use mathlib.Core.Path.{_≡_, refl, ap, _∙_, subst}
 use mathlib.Core.Bool.{Bool, true, false, _||_}
 use mathlib.Core.List.{List}
 use mathlib.Core.Logic.{_⊎_, inl, inr, _≢_}
@@ -12,36 +12,35 @@ use borrow.Author.Tests.{leb-true, ltb-true, lt-ltb}
 use lib.ListN.{length}
 use Rattle.definition.specs.Limits.{mostIdentifiers, mostWorlds}
 use Rattle.definition.specs.Lists.{Each, empty, below}
-use Rattle.definition.specs.Records.{Rec, decode}
+use Rattle.definition.specs.Records.{Rec, decode, nobody}
 use Rattle.definition.specs.Flags.{Flags, flagsOf}
 use Rattle.definition.specs.Checks.{Lengths}
-use Rattle.definition.specs.Tree.{Node, Place, Left, Middle, Right, Root, Unplaced, nodeAt}
+use Rattle.definition.specs.Tree.{Node, Place, Left, Middle, Right, Root, Unplaced, childless, nodeAt}
 use Rattle.definition.specs.Graph.{initializeGraphIfNeeded}
 use Rattle.definition.specs.Run.{State, ended, full, stops, steps, unlimitedRun, start, final}
 use Rattle.definition.specs.Trays.{rowNumber, traysOf}
 use Rattle.definition.specs.Claim.{Demand3}
 use Rattle.definition.proofs.Lists.{or-cases, each-map}
 use Rattle.definition.proofs.Nodes.{ext-result}
-use Rattle.definition.proofs.Forms.{WellFormed}
 use Rattle.definition.proofs.Priest.{rule-is-priest}
 use Rattle.definition.proofs.Edges.{init-one, init-less}
 use Rattle.definition.proofs.Exact
 use Rattle.definition.proofs.Treed
 use Rattle.definition.proofs.Treed.{Treed, placed, childAt}
 use Rattle.definition.proofs.Growing.{reached-treed, reached-between}
-use Rattle.definition.proofs.Accepted.{Accepted}
+use Rattle.definition.proofs.Accepted.{Accepted, accepted}
 use Rattle.definition.proofs.Bounds
 use Rattle.definition.proofs.Fields
 use Rattle.definition.proofs.TraysKept
 use Rattle.definition.proofs.Calls
 use Rattle.definition.proofs.Sound
-use Rattle.soundness.specs.Claims.{RulesArePriests, Stops, StaysStopped, FullExactly, NotFullExactly, StepsGrow, PartsGrow, childOf, IsTree, TreesOfRun, TreesOfStep, RecordFits, Fits, RunsFit, Beyond, TraysKeep, TraysSized, RefusalsWriteNothing}
+use Rattle.soundness.specs.Claims.{RulesArePriests, Stops, StaysStopped, FullExactly, NotFullExactly, TwelveExactly, TwelveZeroes, QueueCounts, StepsGrow, PartsGrow, childOf, IsTree, TreesOfRun, TreesOfStep, RecordFits, Fits, RunsFit, Beyond, TraysKeep, TraysSized, RefusalsWriteNothing}
 
 pub demand-3 : Demand3
 demand-3 = Sound.demand-3
 
-pub rules-are-priests : RulesArePriests WellFormed
-rules-are-priests = rule-is-priest
+pub rules-are-priests : RulesArePriests
+rules-are-priests branch flags lent e n = rule-is-priest _ (Calls.run-linked branch flags lent (accepted branch flags lent e) n)
 
 pub run-stops : Stops
 unfolding stops ended full
@@ -77,6 +76,18 @@ full-exactly F rs = (
 pub not-full-exactly : NotFullExactly
 not-full-exactly = Exact.not-full-exact
 
+pub twelve-exactly : TwelveExactly
+twelve-exactly branch flags lent e =
+    let k = full-exactly (flagsOf flags) (decode branch) in
+    let f = Calls.twelve-full branch flags lent e in
+    (λ a. k .0 (f .0 a), λ p. f .1 (k .1 p))
+
+pub twelve-zeroes : TwelveZeroes
+twelve-zeroes = Calls.twelve-zeroes
+
+pub queue-counts : QueueCounts
+queue-counts = Exact.run-counted
+
 pub steps-grow : StepsGrow
 steps-grow = Exact.step-grows
 
@@ -99,12 +110,29 @@ placed-in Middle h = refl
 placed-in Right h = refl
 placed-in Unplaced h = absurd (h refl)
 
+placed-out : placed Unplaced ≡ false
+unfolding placed
+placed-out = refl
+
+child-nowhere : (p : Place) → childAt p childless ≡ nobody
+unfolding childAt
+child-nowhere Root = refl
+child-nowhere Left = refl
+child-nowhere Middle = refl
+child-nowhere Right = refl
+child-nowhere Unplaced = refl
+
 is-tree : (t : List Node) → Treed t → IsTree t
 is-tree t r =
     record {
       root = (r .root, r .orphan);
       down = λ y p h. let c = r .below y p (λ e. h (child-at t y p ∙ e)) in rw (child-at t y p) (c .parent, c .place);
       up = λ x h n. child-at t _ (nodeAt t x .place) ∙ r .above x (placed-in (nodeAt t x .place) h) n .child;
+      depth = r .depth;
+      deeper = λ x h n. r .above x (placed-in (nodeAt t x .place) h) n .deeper;
+      loose = λ x h.
+          let k = r .loose x (rw h placed-out) in
+          (ap (λ (s : Treed.Spot). s .parent) k, λ p. child-at t x p ∙ ap (λ (s : Treed.Spot). childAt p (s .children)) k ∙ child-nowhere p);
       distinct = Treed.leaves-distinct t r;
       few = Treed.leaves-few t r;
       unbounded = Treed.treed-unbounded t r;

@@ -2,30 +2,32 @@
 use mathlib.Core.Path.{_≡_}
 use mathlib.Core.Bool.{Bool, true, false}
 use mathlib.Core.List.{List, _++_}
+use mathlib.Core.Option.{none}
 use mathlib.Core.Logic.{_⊎_, _↔_, _≢_}
-use Prim.Native.Nat.{ℕ, _<_, _≤_, _^_}
+use Prim.Native.Nat.{ℕ, suc, _<_, _≤_, _+_, _^_}
 use lib.ListN.{length, drop}
-use Rattle.definition.specs.Limits.{mostIdentifiers, mostWorlds, nodeTrayLength, formulaTrayLength, edgeTrayLength}
-use Rattle.definition.specs.Lists.{Each, empty}
+use Rattle.definition.specs.Limits.{mostIdentifiers, mostWorlds, mostFormulas, nodeTrayLength, formulaTrayLength, edgeTrayLength}
+use Rattle.definition.specs.Lists.{Each, Distinct, empty}
 use Rattle.definition.specs.Records.{Rec, nobody, isNobody, decode, marks, numberOf}
 use Rattle.definition.specs.Formula.{formAt}
 use Rattle.definition.specs.Flags.{Flags, flagsOf}
-use Rattle.definition.specs.Checks.{Lengths, Check}
+use Rattle.definition.specs.Checks.{Lengths, Check, refused}
 use Rattle.definition.specs.Models.{Model, Has, truth}
 use Rattle.definition.specs.Tree.{Node, Place, Left, Middle, Right, Root, Unplaced, nodeAt, leavesBelow, upward, leaves, path}
 use Rattle.definition.specs.Rules.{expansion, writtenRule, priest}
 use Rattle.definition.specs.Subtree.{Targeted, appendLogicRuleResult}
 use Rattle.definition.specs.Run.{State, apply, step, full, run, unlimitedRun, start, final}
-use Rattle.definition.specs.Trays.{Trays, rowNumber, traysOf}
-use Rattle.definition.specs.Call.{Refused, Ended, outcome, answer, traysLeft, lengthsOf}
+use Rattle.definition.specs.Trays.{Trays, rowNumber, traysOf, zeroTrays, laidOver}
+use Rattle.definition.specs.Call.{Refused, Ended, outcome, refusal, answer, traysLeft, lengthsOf}
 use Rattle.definition.specs.Claim.{Proved, Reaching}
-use Rattle.definition.proofs.Issued.{Distinct}
+use Rattle.definition.specs.Cases.{bytes, deadEnd, exactly}
 
--- "whose rules are Priest's tableau rules": the rule that records choose, written out, is the row of Priest's table.
--- Linked: every link of a record is to an earlier one, as check 8 leaves it
-abbrev pub RulesArePriests : (List Rec → Type 0) → Type 0
-RulesArePriests Linked =
-    (rs : List Rec) → Linked rs → (f : ℕ) → f < length rs → isNobody f ≡ false →
+-- "whose rules are Priest's tableau rules": at every state of an accepted run, the rule that a formula's record chooses, written out, is the row
+-- of Priest's table. Of closing, worlds and edges this says nothing: there demand 3 speaks
+abbrev pub RulesArePriests : Type 0
+RulesArePriests =
+    (branch : List ℕ) (flags : ℕ) (lent : Lengths) → refused branch flags lent ≡ none → (n : ℕ) → let rs = run n (flagsOf flags) (start (flagsOf flags) (decode branch)) .formulas in
+    (f : ℕ) → f < length rs → isNobody f ≡ false →
     writtenRule (formAt (rs ++ expansion rs f .made)) (expansion rs f .rule) ≡ priest (formAt rs f)
 
 -- the run stops by itself: where it stops, it is proved, nothing waits, 25 worlds exist, or it is full; more steps change nothing
@@ -44,6 +46,19 @@ FullExactly = (F : Flags) (rs : List Rec) → (full (final F rs) ≡ true) ↔ (
 abbrev pub NotFullExactly : Type 0
 NotFullExactly = (k : ℕ) (F : Flags) (rs : List Rec) → mostIdentifiers < k → full (final F rs) ≡ false → unlimitedRun k F (start F rs) ≡ final F rs
 
+-- so the call refuses with 12 exactly then, and zeroes the three lengths
+abbrev pub TwelveExactly : Type 0
+TwelveExactly =
+    (branch : List ℕ) (flags : ℕ) (lent : Trays) → refused branch flags (lengthsOf lent) ≡ none →
+    (answer branch flags lent ≡ refusal 12 0) ↔ ((n : ℕ) × (mostIdentifiers < length (unlimitedRun n (flagsOf flags) (start (flagsOf flags) (decode branch)) .nodes)))
+
+abbrev pub TwelveZeroes : Type 0
+TwelveZeroes = (branch : List ℕ) (flags : ℕ) (lent : Trays) → refused branch flags (lengthsOf lent) ≡ none → answer branch flags lent ≡ refusal 12 0 → traysLeft branch flags lent ≡ laidOver zeroTrays lent
+
+-- "each identifier once": at every state, those that steps have taken and those that wait are as many as there are
+abbrev pub QueueCounts : Type 0
+QueueCounts = (n : ℕ) (F : Flags) (rs : List Rec) → let s = unlimitedRun n F (start F rs) in s .steps + length (s .waiting) ≡ length (s .nodes)
+
 -- no step, and no part of a step, takes an identifier back
 abbrev pub StepsGrow : Type 0
 StepsGrow = (F : Flags) (s : State) → length (s .nodes) ≤ length (step F s .nodes)
@@ -61,16 +76,20 @@ childOf t y Middle = nodeAt t y .children .middle
 childOf t y Right = nodeAt t y .children .right
 childOf t y Unplaced = nobody
 
--- the tree is a tree, its leaves are distinct and no more than its nodes, and no bound of depth decides
+-- the tree is a tree: node 0 is its root, parents and children agree, each node is one deeper than its parent, and a node that was never placed
+-- has no parent and no child; its leaves are distinct and no more than its nodes, and no bound of depth decides
 pub record IsTree (t : List Node) : Type 0 where
   pub root : (nodeAt t 0 .place ≡ Root) × (nodeAt t 0 .parent ≡ nobody)
   pub down : (y : ℕ) (p : Place) → childOf t y p ≢ nobody → (nodeAt t (childOf t y p) .parent ≡ y) × (nodeAt t (childOf t y p) .place ≡ p)
   pub up : (x : ℕ) → nodeAt t x .place ≢ Unplaced → x ≢ 0 → childOf t (nodeAt t x .parent) (nodeAt t x .place) ≡ x
+  pub depth : ℕ → ℕ
+  pub deeper : (x : ℕ) → nodeAt t x .place ≢ Unplaced → x ≢ 0 → depth x ≡ suc (depth (nodeAt t x .parent))
+  pub loose : (x : ℕ) → nodeAt t x .place ≡ Unplaced → (nodeAt t x .parent ≡ nobody) × ((p : Place) → childOf t x p ≡ nobody)
   pub distinct : Distinct (leaves t)
   pub few : length (leaves t) ≤ length t
   pub unbounded : (k : ℕ) → length t ≤ k → (leavesBelow k t 0 ≡ leaves t) × Each (λ l. upward k t l ≡ path t l) (leaves t)
 
--- at every state of a run, and between two placings of one step
+-- at every state of a run of a marked branch, and between two placings of one step, as long as 65535, which is nobody, is not issued
 abbrev pub TreesOfRun : Type 0
 TreesOfRun = (F : Flags) (rs : List Rec) (n : ℕ) → empty (marks rs) ≡ false → length (unlimitedRun n F (start F rs) .nodes) ≤ nobody → IsTree (unlimitedRun n F (start F rs) .nodes)
 
@@ -95,18 +114,18 @@ pub record NodeFits (n m : ℕ) (x : Node) : Type 0 where
 pub record RecordFits (r : Rec) : Type 0 where
   pub kind : numberOf (r .kind) ≤ 8
   pub mark : r .mark ≤ 1
-  pub left : r .left ≤ 65535
-  pub right : r .right ≤ 65535
+  pub left : r .left ≤ nobody
+  pub right : r .right ≤ nobody
 
 -- the bounds of a run that ended, with every number that the trays hold
 pub record Fits (s : State) : Type 0 where
   pub identifiers : length (s .nodes) ≤ mostIdentifiers
   pub steps : s .steps ≤ mostIdentifiers
-  pub formulas : length (s .formulas) ≤ 1280
+  pub formulas : length (s .formulas) ≤ mostFormulas
   pub worlds : s .graph .worlds ≤ mostWorlds
   pub nodes : (x : ℕ) → x < length (s .nodes) → NodeFits (length (s .nodes)) (length (s .formulas)) (nodeAt (s .nodes) x)
   pub records : Each RecordFits (s .formulas)
-  pub rows : Each (λ (row : List Bool). rowNumber row < 2 ^ 25) (s .graph .rows)
+  pub rows : Each (λ (row : List Bool). rowNumber row < 2 ^ mostWorlds) (s .graph .rows)
 
 abbrev pub RunsFit : Type 0
 RunsFit =
@@ -140,7 +159,8 @@ abbrev pub ModelsExist : Type 0
 ModelsExist = (F : Flags) (value : ℕ → ℕ → Bool) → (M : Model) × Has F M × (0 < M .size) × Reaching F M 0 × (M .value ≡ value)
 
 -- and its second half is needed: the starred branch with flags 6 is proved, and true at a world that reaches nothing
-abbrev pub DeadEnd : List ℕ → Type 0
-DeadEnd branch =
-    ((lent : Trays) → lengthsOf lent ≡ record { nodes = nodeTrayLength; formulas = formulaTrayLength; edges = edgeTrayLength } → Proved (answer branch 6 lent)) ×
-    ((M : Model) × Has (flagsOf 6) M × (0 < M .size) × Each (λ f. truth M (formAt (decode branch) f) 0 ≡ true) (marks (decode branch)))
+abbrev pub DeadEnd : Type 0
+DeadEnd =
+    let branch = bytes deadEnd in
+    ((lent : Trays) → lengthsOf lent ≡ exactly → Proved (answer branch 6 lent)) ×
+    ((M : Model) × Has (flagsOf 6) M × (0 < M .size) × ((v : ℕ) → M .reach 0 v ≡ false) × Each (λ f. truth M (formAt (decode branch) f) 0 ≡ true) (marks (decode branch)))
