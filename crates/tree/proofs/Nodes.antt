@@ -1,14 +1,14 @@
 -- What each function reads or does of the nodes that the table holds.
-use Prim.Native.Nat.{ℕ, zero, suc, _+_, _*_, _-_, _<_, _≤_}
+use Prim.Native.Nat.{ℕ, _+_, _*_, _<_, _≤_}
 use mathlib.Core.Path.{_≡_, refl, sym, ap, _∙_, subst}
-use mathlib.Core.Bool.{Bool, true, false, cond, _&&_, not}
+use mathlib.Core.Bool.{Bool, true, false, not}
 use mathlib.Core.List.{List, [], _∷_, _++_}
 use native.Mathlib.Omega.{arith}
 use native.Mathlib.Decide.{decLe}
-use lib.ListN.{length, getD, set, replicate, length-append, length-set}
+use lib.ListN.{length, set, replicate, length-append}
 use lib.Seq.{set-out, set-set, set-getD, getD-set-same, set-at, getD-at}
 use Rattle.definition.specs.Records.{nobody, isNobody}
-use Rattle.definition.specs.Tree.{Node, Children, Place, Root, Left, Middle, Right, Unplaced, nodeAt, newNode, childless, setChild, change, placedBelow, withChild, markedAgainst, isContradictory, link, isLeaf}
+use Rattle.definition.specs.Tree.{Node, Children, Place, Root, Left, Middle, Right, Unplaced, nodeAt, newNode, setChild, change, placedBelow, withChild, isContradictory, link, isLeaf}
 use Rattle.definition.proofs.Nodes.{blank, length-change}
 use Rattle.tree.specs.Lay.{placeCode, row, lay, Held, held, tooMany}
 use Rattle.tree.proofs.Rows.{lay-set, lay-same, lay-blank}

@@ -1,15 +1,14 @@
 -- Reads and stores of the table's rows.
 use Prim.Native.Nat.{ℕ, zero, suc, _+_, _*_, _-_, _<_, _≤_}
 use mathlib.Core.Path.{_≡_, refl, sym, ap, _∙_}
-use mathlib.Core.List.{List, [], _∷_, _++_, append-assoc}
+use mathlib.Core.List.{List, [], _∷_, _++_}
 use native.Mathlib.Omega.{arith}
-use native.Mathlib.Decide.{decLe}
 use lib.ListN.{length, getD, set, replicate, length-append, length-set, length-replicate, replicate-append-replicate, List·getD-append, List·getD-eq-default}
-use lib.Seq.{getD-append-add, set-append-left, set-out}
+use lib.Seq.{getD-append-add, set-append-left}
 use Rattle.definition.specs.Lists.{concatMap}
 use Rattle.definition.specs.Records.{nobody}
-use Rattle.definition.specs.Tree.{Node, newNode, nodeAt, change}
-use Rattle.definition.proofs.Nodes.{blank, length-change}
+use Rattle.definition.specs.Tree.{Node, nodeAt}
+use Rattle.definition.proofs.Nodes.{blank}
 use Rattle.tree.specs.Lay.{row, lay}
 
 abbrev rows : List Node → List ℕ

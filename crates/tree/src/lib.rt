@@ -1,14 +1,17 @@
 // The nodes of the proof tree, nine numbers to a node, in one lent array; paths and their leaves.
+use arrays::push;
 use formula::FormulaNumber;
 use graph::PossibleWorld;
 ghost use mathlib.Core.Path.{_≡_};
-ghost use mathlib.Core.Bool.{Bool, cond, _&&_, _||_, not};
 ghost use mathlib.Core.List.{List, [], _∷_, _++_};
 ghost use Prim.Native.Nat.{ℕ, _≤_, _<_, _+_};
 ghost use lib.Dec.{eqb};
 ghost use lib.ListN.{length, getD, set};
+ghost use Rattle.arrays.specs.Listed.{Listed};
+ghost use Rattle.definition.specs.Lists.{any, elem, filter};
 ghost use Rattle.definition.specs.Records.{isNobody};
-ghost use Rattle.definition.specs.Tree.{Node, Place, nodeAt, newNode, markedAgainst, isContradictory, change, link, linkChain, isLeaf};
+ghost use Rattle.definition.specs.Tree.{Node, Place, nodeAt, newNode, markedAgainst, isContradictory, change, link, linkChain, isLeaf, only, leavesBelow, path};
+ghost use Rattle.definition.specs.Subtree.{takes};
 ghost use Rattle.tree.specs.Lay.{placeCode, row, lay, Held};
 ghost use Rattle.tree.specs.Chain.{chainOf, Below};
 
@@ -229,4 +232,130 @@ pub fn link_chain(tree: &mut [u16; 4608], len: usize, y: ProofTreeNodeID, place:
         at = 2;
         k += 1;
     }
+}
+
+// The path of a leaf holds x.
+pub fn path_contains(
+    tree: &[u16; 4608],
+    len: usize,
+    x: ProofTreeNodeID,
+    leaf: ProofTreeNodeID,
+) -> bool
+    ensures { λ r. ⌜ ((ns : List Node) → length ns ≡ len → len ≤ 512 → now (tree .entry) ≡ lay ns → r ≡ elem (x .0) (path ns (leaf .0))) ⌝ }
+{
+    let mut cur = leaf;
+    let mut k: usize = 0;
+    while k < len {
+        if cur.is_none() {
+            return false;
+        }
+        if x.is(cur) {
+            return true;
+        }
+        cur = parent_of(tree, cur);
+        k += 1;
+    }
+    false
+}
+
+// The path of a leaf holds a contradictory node.
+pub fn path_is_contradictory(tree: &[u16; 4608], len: usize, leaf: ProofTreeNodeID) -> bool
+    ensures { λ r. ⌜ ((ns : List Node) → length ns ≡ len → len ≤ 512 → now (tree .entry) ≡ lay ns → r ≡ any (λ x. isContradictory (nodeAt ns x)) (path ns (leaf .0))) ⌝ }
+{
+    let mut cur = leaf;
+    let mut k: usize = 0;
+    while k < len {
+        if cur.is_none() {
+            return false;
+        }
+        if is_contradictory(tree, cur) {
+            return true;
+        }
+        cur = parent_of(tree, cur);
+        k += 1;
+    }
+    false
+}
+
+// The path of a leaf holds the target and no contradictory node.
+pub fn takes(tree: &[u16; 4608], len: usize, target: ProofTreeNodeID, leaf: ProofTreeNodeID) -> bool
+    ensures { λ r. ⌜ ((ns : List Node) → length ns ≡ len → len ≤ 512 → now (tree .entry) ≡ lay ns → r ≡ takes ns (target .0) (leaf .0)) ⌝ }
+{
+    path_contains(tree, len, target, leaf) && !path_is_contradictory(tree, len, leaf)
+}
+
+// x, if it is a node.
+fn push_node(x: ProofTreeNodeID, out: &mut [u16; 512], n: usize) -> usize
+    ensures { λ r. ⌜ ((l : List ℕ) → Listed l n (now (out .entry)) → Listed (l ++ only (x .0)) r (now (out .exit))) ⌝ }
+{
+    if x.is_none() {
+        return n;
+    }
+    push(out, n, x.0)
+}
+
+// x, if it is a node whose path takes what goes below the target.
+fn push_taker(
+    tree: &[u16; 4608],
+    len: usize,
+    target: ProofTreeNodeID,
+    x: ProofTreeNodeID,
+    out: &mut [u16; 512],
+    n: usize,
+) -> usize
+    ensures { λ r. ⌜ ((ns : List Node) (l : List ℕ) → length ns ≡ len → len ≤ 512 → now (tree .entry) ≡ lay ns → Listed l n (now (out .entry))
+        → Listed (l ++ filter (takes ns (target .0)) (only (x .0))) r (now (out .exit))) ⌝ }
+{
+    if x.is_none() {
+        return n;
+    }
+    if takes(tree, len, target, x) {
+        return push(out, n, x.0);
+    }
+    n
+}
+
+// The leaves below x, left, then middle, then right.
+pub fn leaves_below(
+    tree: &[u16; 4608],
+    x: ProofTreeNodeID,
+    depth: usize,
+    out: &mut [u16; 512],
+    n: usize,
+) -> usize
+    ensures { λ r. ⌜ ((ns : List Node) (l : List ℕ) → length ns ≤ 512 → now (tree .entry) ≡ lay ns → Listed l n (now (out .entry)) → Listed (l ++ leavesBelow depth ns (x .0)) r (now (out .exit))) ⌝ }
+{
+    if depth == 0 {
+        return push_node(x, out, n);
+    }
+    if is_leaf(tree, x) {
+        return push_node(x, out, n);
+    }
+    let a = leaves_below(tree, left_of(tree, x), depth - 1, out, n);
+    let b = leaves_below(tree, middle_of(tree, x), depth - 1, out, a);
+    leaves_below(tree, right_of(tree, x), depth - 1, out, b)
+}
+
+// The leaves below x whose paths take what goes below the target, in the same order.
+pub fn takers_below(
+    tree: &[u16; 4608],
+    len: usize,
+    target: ProofTreeNodeID,
+    x: ProofTreeNodeID,
+    depth: usize,
+    out: &mut [u16; 512],
+    n: usize,
+) -> usize
+    ensures { λ r. ⌜ ((ns : List Node) (l : List ℕ) → length ns ≡ len → len ≤ 512 → now (tree .entry) ≡ lay ns → Listed l n (now (out .entry))
+        → Listed (l ++ filter (takes ns (target .0)) (leavesBelow depth ns (x .0))) r (now (out .exit))) ⌝ }
+{
+    if depth == 0 {
+        return push_taker(tree, len, target, x, out, n);
+    }
+    if is_leaf(tree, x) {
+        return push_taker(tree, len, target, x, out, n);
+    }
+    let a = takers_below(tree, len, target, left_of(tree, x), depth - 1, out, n);
+    let b = takers_below(tree, len, target, middle_of(tree, x), depth - 1, out, a);
+    takers_below(tree, len, target, right_of(tree, x), depth - 1, out, b)
 }
