@@ -1,11 +1,11 @@
 -- Kinds and their numbers.
 use Prim.Native.Nat.{ℕ, zero, suc, _<_, _≤_}
 use mathlib.Core.Path.{_≡_, refl, sym, ap, _∙_}
-use mathlib.Core.List.{List, [], _∷_}
+use mathlib.Core.List.{List, [], _∷_, _++_}
 use native.Mathlib.Omega.{arith}
 use mathlib.Core.Logic.{⊎-elim}
 use borrow.Author.Tests.{eq-eqb, ne-eqb}
-use lib.ListN.{getD}
+use lib.ListN.{length, getD, List·getD-eq-default}
 use Rattle.definition.specs.Records.{Kind, Atomic, Non, And, Or, Imply, BiImply, StrictImply, Possible, Necessary, Unknown, Comment, Rec, made, numberOf, kindOf, recAt, formulaOf}
 use Rattle.definition.proofs.Lists.{alike}
 use Rattle.definition.specs.Queue.{priorities, prioritiesOfNon, priorityOf}
@@ -13,9 +13,13 @@ use Rattle.formula.specs.Priority.{priorityBy}
 use Rattle.formula.specs.Recorded.{missing, Recorded}
 use Rattle.formula.proofs.Recorded.{recorded-count, recAt-far}
 
+-- the kinds of the table
+abbrev kinds : List Kind
+kinds = Atomic ∷ Non ∷ And ∷ Or ∷ Imply ∷ BiImply ∷ StrictImply ∷ Possible ∷ Necessary ∷ []
+
 -- the kind of a number, 9 and 10 with the others
 abbrev kindBack : ℕ → Kind
-kindBack n = getD (Atomic ∷ Non ∷ And ∷ Or ∷ Imply ∷ BiImply ∷ StrictImply ∷ Possible ∷ Necessary ∷ Unknown ∷ []) n Comment
+kindBack n = getD (kinds ++ (Unknown ∷ [])) n Comment
 
 kind-back : (k : Kind) → kindBack (numberOf k) ≡ k
 unfolding numberOf
@@ -35,7 +39,7 @@ kind-back Comment = refl
 pub same-kind : (k l : Kind) → numberOf k ≡ numberOf l → k ≡ l
 same-kind k l e = sym (kind-back k) ∙ ap kindBack e ∙ kind-back l
 
--- ---- numbers of the table
+-- ---- numbers of the table: a number above 8 is stored as 9
 pub known : (n : ℕ) → n ≤ 8 → n ≡ numberOf (kindOf n)
 unfolding numberOf kindOf
 known zero h = refl
@@ -51,16 +55,7 @@ known (suc (suc (suc (suc (suc (suc (suc (suc (suc n))))))))) h = absurd (omega 
 
 pub unknown : (n : ℕ) → 8 < n → 9 ≡ numberOf (kindOf n)
 unfolding numberOf kindOf
-unknown zero h = absurd (omega arith)
-unknown (suc zero) h = absurd (omega arith)
-unknown (suc (suc zero)) h = absurd (omega arith)
-unknown (suc (suc (suc zero))) h = absurd (omega arith)
-unknown (suc (suc (suc (suc zero)))) h = absurd (omega arith)
-unknown (suc (suc (suc (suc (suc zero))))) h = absurd (omega arith)
-unknown (suc (suc (suc (suc (suc (suc zero)))))) h = absurd (omega arith)
-unknown (suc (suc (suc (suc (suc (suc (suc zero))))))) h = absurd (omega arith)
-unknown (suc (suc (suc (suc (suc (suc (suc (suc zero)))))))) h = absurd (omega arith)
-unknown (suc (suc (suc (suc (suc (suc (suc (suc (suc n))))))))) h = refl
+unknown n h = let z : length kinds ≤ n = omega arith in ap numberOf (sym (List·getD-eq-default kinds Unknown z))
 
 -- ---- a node's formula
 pub formula-comment : (rs : List Rec) (f : ℕ) → f ≡ 65535 → 10 ≡ numberOf (formulaOf rs f .kind)
@@ -71,11 +66,12 @@ pub formula-record : (rs : List Rec) (f : ℕ) → (f ≡ 65535 → ⊥) → for
 unfolding formulaOf
 formula-record rs f h = rw (ne-eqb f 65535 h) refl
 
--- of a comment, what says the same of a record that is not there, says the same of its number
+-- what is said alike of a comment and of a record that is not there can be read from the number's record
 pub formula-as : {A : Type 0} {rs : List Rec} {n : ℕ} {a : List ℕ} (g : Rec → A) → g (made Comment 0 0) ≡ g missing
     → Recorded rs n a → n ≤ 1280 → (f : ℕ) → g (formulaOf rs f) ≡ g (recAt rs f)
 unfolding formulaOf
-formula-as {A} {rs} g e p h f = ⊎-elim
+formula-as {A} {rs} g e p h f =
+    ⊎-elim
     (λ q. rw (eq-eqb f 65535 q) (e ∙ ap g (sym (recAt-far rs f (omega (arith, recorded-count p h))))))
     (λ q. ap g (formula-record rs f q))
     (alike f 65535)

@@ -1,7 +1,152 @@
 // The world graph.
+pub mod missing_vertices;
+pub mod vertices;
+
+use missing_vertices::add_missing_reflexive_vertices;
+use missing_vertices::add_missing_symmetric_vertices;
+use missing_vertices::add_missing_transitive_vertices;
+use missing_vertices::add_vertex_if;
+ghost use mathlib.Core.Path.{_≡_};
+ghost use mathlib.Core.Bool.{Bool};
+ghost use Prim.Native.Nat.{ℕ, suc, min, _<_};
+ghost use lib.Dec.{eqb};
+ghost use Rattle.definition.specs.Flags.{Flags};
+ghost use Rattle.definition.specs.Graph.{Graph, edge, addMissingGraphVertices, initializeGraphIfNeeded, fork};
+ghost use Rattle.graph.specs.Drawn.{grid, withVertex, Drawn};
+ghost use Rattle.graph.specs.Logic.{logicOf};
 
 pub struct PossibleWorld(pub u16);
 
 impl PossibleWorld {
     pub const ZERO: PossibleWorld = PossibleWorld(0);
+
+    // The next world. The last index stays.
+    pub fn fork(self) -> PossibleWorld
+        ensures { λ r. ⌜ r .0 ≡ min (suc (self .0)) 65535 ⌝ }
+    {
+        if self.0 == 65535 {
+            return PossibleWorld(65535);
+        }
+        PossibleWorld(self.0 + 1)
+    }
+
+    // Whether they are the same world.
+    pub fn is(self, other: PossibleWorld) -> bool
+        ensures { λ r. ⌜ r ≡ eqb (self .0) (other .0) ⌝ }
+    {
+        self.0 == other.0
+    }
+}
+
+// An edge; the name is the Rust's.
+pub struct GraphVertex {
+    pub from: PossibleWorld,
+    pub to: PossibleWorld,
+}
+
+// Whether u reaches v.
+pub fn contains(edges: &[u8; 625], u: PossibleWorld, v: PossibleWorld) -> bool
+    ensures { λ r. ⌜ ((g : Graph) (n : ℕ) → Drawn g n (now (edges .entry)) → r ≡ edge g (u .0) (v .0)) ⌝ }
+{
+    let from = u.0 as usize;
+    let to = v.0 as usize;
+    if 25 <= from {
+        return false;
+    }
+    if 25 <= to {
+        return false;
+    }
+    edges[from * 25 + to] == 1
+}
+
+// One edge more, where both worlds have a place.
+pub fn add_vertex(edges: &mut [u8; 625], u: PossibleWorld, v: PossibleWorld)
+    ensures { λ r. ⌜ ((e : ℕ → ℕ → Bool) → now (edges .entry) ≡ grid e → now (edges .exit) ≡ grid (withVertex e (u .0) (v .0))) ⌝ }
+{
+    let from = u.0 as usize;
+    let to = v.0 as usize;
+    if 25 <= from {
+        return;
+    }
+    if 25 <= to {
+        return;
+    }
+    edges[from * 25 + to] = 1;
+}
+
+// What the flags say of the graph.
+pub struct NormalModalLogic {
+    pub is_reflexive: bool,
+    pub is_symmetric: bool,
+    pub is_transitive: bool,
+}
+
+// The missing edges of a graph of so many worlds: reflexive, symmetric, transitive, each if flagged.
+pub fn add_missing_graph_vertices(edges: &mut [u8; 625], worlds: usize, logic: NormalModalLogic)
+    ensures { λ r. ⌜ ((F : Flags) (g : Graph) → logic ≡ logicOf F → Drawn g worlds (now (edges .entry)) → Drawn (addMissingGraphVertices F g) worlds (now (edges .exit))) ⌝ }
+{
+    if logic.is_reflexive {
+        add_missing_reflexive_vertices(edges, worlds);
+    }
+    if logic.is_symmetric {
+        add_missing_symmetric_vertices(edges);
+    }
+    if logic.is_transitive {
+        add_missing_transitive_vertices(edges);
+    }
+}
+
+// Puts world 0 in an empty graph. The count of worlds.
+pub fn initialize_graph_if_needed(
+    edges: &mut [u8; 625],
+    worlds: usize,
+    logic: NormalModalLogic,
+) -> usize
+    ensures { λ r. ⌜ ((F : Flags) (g : Graph) → logic ≡ logicOf F → Drawn g worlds (now (edges .entry)) → Drawn (initializeGraphIfNeeded F g) r (now (edges .exit))) ⌝ }
+{
+    if worlds != 0 {
+        return worlds;
+    }
+    add_missing_graph_vertices(edges, 1, logic);
+    1
+}
+
+// The world after the largest of these; world zero where there is none.
+pub fn forked_world(worlds: usize) -> PossibleWorld
+    ensures { λ r. ⌜ r .0 ≡ min worlds 65535 ⌝ }
+{
+    if worlds == 0 {
+        return PossibleWorld::ZERO;
+    }
+    if 65535 < worlds {
+        return PossibleWorld(65535);
+    }
+    PossibleWorld((worlds - 1) as u16).fork()
+}
+
+// A new world, which u reaches, while there is room for one. The count of worlds.
+pub fn fork_world(
+    edges: &mut [u8; 625],
+    worlds: usize,
+    u: PossibleWorld,
+    logic: NormalModalLogic,
+) -> usize
+    ensures { λ r. ⌜ ((F : Flags) (g : Graph) → logic ≡ logicOf F → worlds < 25 → Drawn g worlds (now (edges .entry)) → Drawn (fork F g (u .0)) r (now (edges .exit))) ⌝ }
+{
+    if 25 <= worlds {
+        return worlds;
+    }
+    let forked = forked_world(worlds);
+    // An edge runs between worlds of the graph.
+    let known = u.0 <= forked.0;
+    add_vertex_if(
+        edges,
+        GraphVertex {
+            from: u,
+            to: forked,
+        },
+        known,
+    );
+    add_missing_graph_vertices(edges, worlds + 1, logic);
+    worlds + 1
 }

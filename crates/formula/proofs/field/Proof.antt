@@ -11,7 +11,7 @@ returns : tie.Need-returns
 returns c = λ rs p h g e. let a = c .before .before .args in read-far (a .f .0) (a .j) (a .none) p h (c .if1 .taken) e
 
 returns-2 : tie.Need-returns-2
-returns-2 c = λ rs p h g e. let a = c .before .before .before .args in absurd (omega (arith, c .if2 .taken, c .before .if1 .left))
+returns-2 c = λ rs p h g e. absurd (omega (arith, c .if2 .taken, c .before .if1 .left))
 
 returns-3 : tie.Need-returns-3
 returns-3 c = λ rs p h g e. absurd (omega (arith, c .if3 .taken))

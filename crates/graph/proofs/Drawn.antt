@@ -1,0 +1,109 @@
+-- Laws of a graph in its array.
+use Prim.Native.Nat.{ℕ, _+_, _*_, _≤_, _<_}
+use mathlib.Core.Path.{_≡_, refl, sym, ap, _∙_}
+use mathlib.Core.Bool.{Bool, true, false, not, _&&_, _||_}
+use mathlib.Core.Logic.{_⊎_, inr, ⊎-elim}
+use mathlib.Core.List.{List}
+use native.Mathlib.Omega.{arith}
+use lib.Dec.{ltb, eqb}
+use lib.ListN.{getD, replicate, length-replicate, getD-replicate}
+use borrow.Author.Tests.{ltb-true, eqb-true, lt-ltb}
+use Rattle.definition.specs.Lists.{any, below}
+use Rattle.definition.specs.Graph.{Graph, edge, graphOf, emptyGraph, addMissingReflexiveVertices, addMissingSymmetricVertices, paired, addMissingTransitiveVertices}
+use Rattle.definition.proofs.Lists.{true-false, and-left, and-right, or-cases, either, any-below}
+use Rattle.definition.proofs.Edges.{edge-graph}
+use Rattle.graph.specs.Drawn.{flag, grid, Drawn}
+use Rattle.graph.proofs.Grid.{edge-of, grid-cell, grid-by, grid-same}
+use Rattle.graph.proofs.Scan.{any-less}
+
+-- no world, and an array of zeros
+pub drawn-none : Drawn emptyGraph 0 (replicate 625 0)
+unfolding emptyGraph edge
+drawn-none =
+    record {
+      count = refl;
+      room = omega arith;
+      inside = λ u v h. true-false (sym h);
+      cells = grid-by (replicate 625 0) (edge emptyGraph) (length-replicate {A = ℕ} 625 0) (λ k h. getD-replicate 625 k 0 0 h);
+    }
+
+-- the edges that each scan adds
+abbrev pub reflexives : ℕ → ℕ → ℕ → Bool
+reflexives n u v = ltb u n && eqb u v
+
+abbrev pub symmetrics : Graph → ℕ → ℕ → Bool
+symmetrics g u v = edge g v u
+
+abbrev pub transitives : Graph → ℕ → ℕ → Bool
+transitives g u w = any (paired g u w) (below (g .worlds))
+
+module _ {g : Graph} {n : ℕ} {a : List ℕ} (d : Drawn g n a) where
+  -- an edge between other worlds is none
+  pub drawn-out : (u v : ℕ) → (n ≤ u) ⊎ (n ≤ v) → edge g u v ≡ false
+  drawn-out u v h =
+      ⊎-elim (λ t. let i = d .inside u v t in absurd (⊎-elim (λ k. omega (arith, i .0)) (λ k. omega (arith, i .1)) h)) (λ t. t) (either (edge g u v))
+
+  pub drawn-cell : (u v : ℕ) → u < 25 → v < 25 → eqb (getD a (u * 25 + v) 0) 1 ≡ edge g u v
+  drawn-cell u v hu hv = ap (λ (l : List ℕ). eqb (getD l (u * 25 + v) 0) 1) (d .cells) ∙ rw (grid-cell (edge g) u v hu hv) (go (edge g u v))
+    where
+      go : (b : Bool) → eqb (flag b) 1 ≡ b
+      go true = refl
+      go false = refl
+
+  -- the worlds of the graph are as good as all 25, for a pair by way of one of them
+  pub paired-all : (u w : ℕ) → any (paired g u w) (below 25) ≡ transitives g u w
+  unfolding paired
+  paired-all u w = any-less (paired g u w) (g .worlds) 25 0 (omega (arith, d .count, d .room)) (λ v h. rw (drawn-out u v (inr (omega (arith, d .count)))))
+
+-- a test that tells that two worlds are there holds only of such
+pub within : (u v n : ℕ) (b : Bool) → (b ≡ true → (u < n) × (v < n)) → b ≡ (ltb u n && (ltb v n && b))
+within u v n true h = rw (lt-ltb u n (h refl .0), lt-ltb v n (h refl .1))
+within u v n false h = go (ltb u n) (ltb v n)
+  where
+    go : (x y : Bool) → false ≡ (x && (y && false))
+    go true true = refl
+    go true false = refl
+    go false y = refl
+
+-- the graph of n worlds with the edges e, from the array of those that run between its worlds
+pub drawn-graph : (n m : ℕ) (e f : ℕ → ℕ → Bool) {a : List ℕ} → n ≡ m → n ≤ 25 → ((u v : ℕ) → f u v ≡ (ltb u n && (ltb v n && e u v))) → a ≡ grid f → Drawn (graphOf m e) n a
+unfolding graphOf
+drawn-graph n m e f c h k q =
+    record {
+      count = c;
+      room = h;
+      inside = λ u v t. let i = edge-graph m e u v t in (omega (arith, i .0), omega (arith, i .1));
+      cells = q ∙ grid-same f (edge (graphOf m e)) (λ u v hu hv. k u v ∙ rw c (sym (edge-of m e u v)));
+    }
+
+module _ {g : Graph} {n : ℕ} {a b : List ℕ} (d : Drawn g n a) where
+  pub drawn-reflexive : b ≡ grid (λ u v. edge g u v || reflexives n u v) → Drawn (addMissingReflexiveVertices g) n b
+  unfolding addMissingReflexiveVertices
+  drawn-reflexive q =
+      drawn-graph n (g .worlds) (λ u v. edge g u v || eqb u v) (λ u v. edge g u v || reflexives n u v) (d .count) (d .room) (λ u v.
+      within u v n (edge g u v || reflexives n u v) (λ t. ⊎-elim (d .inside u v) (λ s.
+      let k : u < n = ltb-true u n (and-left (ltb u n) (eqb u v) s) in
+      let l : u ≡ v = eqb-true u v (and-right (ltb u n) (eqb u v) s) in
+      (k, omega arith)) (or-cases (edge g u v) (reflexives n u v) t)) ∙ go u v (ltb u n)) q
+    where
+      go : (u v : ℕ) (c : Bool) → (c && (ltb v n && (edge g u v || (c && eqb u v)))) ≡ (c && (ltb v n && (edge g u v || eqb u v)))
+      go u v true = refl
+      go u v false = refl
+
+  pub drawn-symmetric : b ≡ grid (λ u v. edge g u v || symmetrics g u v) → Drawn (addMissingSymmetricVertices g) n b
+  unfolding addMissingSymmetricVertices
+  drawn-symmetric q =
+      drawn-graph n (g .worlds) (λ u v. edge g u v || symmetrics g u v) (λ u v. edge g u v || symmetrics g u v) (d .count) (d .room) (λ u v.
+      within u v n (edge g u v || edge g v u) (λ t. ⊎-elim (d .inside u v) (λ s. let i = d .inside v u s in (i .1, i .0)) (or-cases (edge g u v) (edge g v u) t))) q
+
+  pub drawn-transitive : b ≡ grid (λ u v. edge g u v || transitives g u v) → Drawn (addMissingTransitiveVertices g) n b
+  unfolding addMissingTransitiveVertices paired
+  drawn-transitive q =
+      drawn-graph n (g .worlds) (λ u v. edge g u v || transitives g u v) (λ u v. edge g u v || transitives g u v) (d .count) (d .room) (λ u w.
+      within u w n (edge g u w || transitives g u w) (λ t. ⊎-elim (d .inside u w) (λ s.
+      let found = any-below (paired g u w) (g .worlds) s in
+      let v = found .0 in
+      let second = edge g v w && not (eqb u v && eqb v w) in (
+        d .inside u v (and-left (edge g u v) second (found .2)) .0,
+        d .inside v w (and-left (edge g v w) (not (eqb u v && eqb v w)) (and-right (edge g u v) second (found .2))) .1,
+      )) (or-cases (edge g u w) (transitives g u w) t))) q

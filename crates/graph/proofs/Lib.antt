@@ -1,0 +1,5 @@
+pub mod Grid
+pub mod Table
+pub mod Scan
+pub mod Drawn
+pub mod Forks

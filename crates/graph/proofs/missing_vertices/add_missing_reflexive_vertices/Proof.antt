@@ -1,0 +1,56 @@
+use borrow.Author.Needs.{needs}
+use Prim.Native.Nat.{_-_, _≤_}
+use mathlib.Core.Path.{_≡_, _∙_}
+use Rattle.definition.specs.Graph.{Graph, edge}
+use Rattle.graph.specs.Drawn.{grid, Drawn}
+use Rattle.graph.proofs.Scan.{scanned, scan-start, scan-next, scan-end}
+use Rattle.graph.proofs.Drawn.{reflexives, drawn-reflexive}
+use Rattle.graph.proofs.missing_vertices.add_missing_reflexive_vertices.Statement.{
+  statement,
+}
+use Rattle.graph.proofs.missing_vertices.add_missing_reflexive_vertices.Tie as tie
+
+abbrev Inv-loop : tie.InvT-loop
+Inv-loop edges₀ worlds n₀ edges n = (n ≤ 625) × ((g : Graph) → Drawn g worlds edges₀ → edges ≡ grid (scanned (edge g) (reflexives worlds) n))
+
+abbrev μ-loop : tie.MeasureT-loop
+μ-loop edges₀ worlds n₀ edges n = 625 - n
+
+loop-holds : tie.Need-loop-holds Inv-loop μ-loop
+loop-holds c = (search needs, λ g d. d .cells ∙ scan-start (edge g) _)
+
+vertex-at-requires : tie.Need-vertex-at-requires Inv-loop μ-loop
+vertex-at-requires c κs = search needs
+
+is-reflexive-vertex-requires : tie.Need-is-reflexive-vertex-requires Inv-loop μ-loop
+is-reflexive-vertex-requires c κs = search needs
+
+add-vertex-if-requires : tie.Need-add-vertex-if-requires Inv-loop μ-loop
+add-vertex-if-requires c κs = search needs
+
+add-n : tie.Need-add-n Inv-loop μ-loop
+add-n c = search needs
+
+loop-less : tie.Need-loop-less Inv-loop μ-loop
+loop-less c = search needs
+
+loop-again : tie.Need-loop-again Inv-loop μ-loop
+loop-again c = (search needs, λ g d. scan-next (edge g) _ _ _ _ _ _ _ (c .before .before .before .vertex-at .ensures .0 (c .before .before .before .before .loop-test .taken)) (c .before .before .is-reflexive-vertex .ensures) (c .before .before .before .before .before .loop .inv .1 g d) (c .add-vertex-if .ensures))
+
+returns : tie.Need-returns Inv-loop μ-loop
+returns c = λ g d. drawn-reflexive d (c .before .loop .inv .1 g d ∙ scan-end (edge g) _ _ (c .loop-test .left))
+
+pub add-missing-reflexive-vertices-spec : {M : Type 1} → statement M
+add-missing-reflexive-vertices-spec =
+    tie.close
+    (tie.spec
+    Inv-loop
+    μ-loop
+    loop-holds
+    vertex-at-requires
+    is-reflexive-vertex-requires
+    add-vertex-if-requires
+    add-n
+    loop-less
+    loop-again
+    returns)

@@ -1,0 +1,107 @@
+// Which formulas contradict one another: binary_logic_semantics.rs.
+use formula::FormulaNumber;
+use formula::kind_at;
+use formula::left_at;
+use formula::right_at;
+ghost use mathlib.Core.Path.{_≡_};
+ghost use mathlib.Core.List.{List};
+ghost use Prim.Native.Nat.{ℕ, _≤_};
+ghost use Rattle.definition.specs.Records.{Rec, recAt, formulaOf};
+ghost use Rattle.definition.specs.Contradiction.{atomOf, atomsOf, said, denied, opposed, areFormulasContradictory};
+ghost use Rattle.formula.specs.Recorded.{Recorded};
+ghost use Rattle.semantics.specs.Literal.{atomsIn};
+
+// What a formula says or denies: no atom, one, or the agreement of two in this order.
+enum Literal {
+    Nothing,
+    Atom(u16),
+    Pair(u16, u16),
+}
+
+// The number of an atom.
+fn atom_of(formulas: &[u16; 5120], count: usize, f: FormulaNumber) -> Literal
+    ensures { λ r. ⌜ ((rs : List Rec) → Recorded rs count (now (formulas .entry)) → count ≤ 1280 → atomsIn r ≡ atomOf rs (recAt rs (f .0))) ⌝ }
+{
+    if kind_at(formulas, count, f) != 0 {
+        return Literal::Nothing;
+    }
+    let a = left_at(formulas, count, f);
+    Literal::Atom(a.0)
+}
+
+// Of an atom its number, of a BiImply of two atoms both.
+fn atoms_of(formulas: &[u16; 5120], count: usize, f: FormulaNumber) -> Literal
+    ensures { λ r. ⌜ ((rs : List Rec) → Recorded rs count (now (formulas .entry)) → count ≤ 1280 → atomsIn r ≡ atomsOf rs (recAt rs (f .0))) ⌝ }
+{
+    if kind_at(formulas, count, f) != 5 {
+        return atom_of(formulas, count, f);
+    }
+    let p = left_at(formulas, count, f);
+    if kind_at(formulas, count, p) != 0 {
+        return Literal::Nothing;
+    }
+    let q = right_at(formulas, count, f);
+    if kind_at(formulas, count, q) != 0 {
+        return Literal::Nothing;
+    }
+    let a = left_at(formulas, count, p);
+    let b = left_at(formulas, count, q);
+    Literal::Pair(a.0, b.0)
+}
+
+// What a formula says: an atom, a BiImply of two atoms, Non Non of an atom.
+fn said(formulas: &[u16; 5120], count: usize, f: FormulaNumber) -> Literal
+    ensures { λ r. ⌜ ((rs : List Rec) → Recorded rs count (now (formulas .entry)) → count ≤ 1280 → atomsIn r ≡ said rs (formulaOf rs (f .0))) ⌝ }
+{
+    if kind_at(formulas, count, f) != 1 {
+        return atoms_of(formulas, count, f);
+    }
+    let p = left_at(formulas, count, f);
+    if kind_at(formulas, count, p) != 1 {
+        return atoms_of(formulas, count, f);
+    }
+    atom_of(formulas, count, left_at(formulas, count, p))
+}
+
+// What a formula denies: the atom, or the BiImply of two atoms, under its Non.
+fn denied(formulas: &[u16; 5120], count: usize, f: FormulaNumber) -> Literal
+    ensures { λ r. ⌜ ((rs : List Rec) → Recorded rs count (now (formulas .entry)) → count ≤ 1280 → atomsIn r ≡ denied rs (formulaOf rs (f .0))) ⌝ }
+{
+    if kind_at(formulas, count, f) != 1 {
+        return Literal::Nothing;
+    }
+    atoms_of(formulas, count, left_at(formulas, count, f))
+}
+
+// One says what the other denies.
+fn opposed(p: Literal, q: Literal) -> bool
+    ensures { λ r. ⌜ r ≡ opposed (atomsIn p) (atomsIn q) ⌝ }
+{
+    match p {
+        Literal::Nothing => false,
+        Literal::Atom(a) => match q {
+            Literal::Nothing => false,
+            Literal::Atom(b) => a == b,
+            Literal::Pair(_, _) => false,
+        },
+        Literal::Pair(a, b) => match q {
+            Literal::Nothing => false,
+            Literal::Atom(_) => false,
+            Literal::Pair(x, y) => a == x && b == y,
+        },
+    }
+}
+
+pub fn are_formulas_contradictory(
+    formulas: &[u16; 5120],
+    count: usize,
+    f: FormulaNumber,
+    g: FormulaNumber,
+) -> bool
+    ensures { λ r. ⌜ ((rs : List Rec) → Recorded rs count (now (formulas .entry)) → count ≤ 1280 → r ≡ areFormulasContradictory rs (formulaOf rs (f .0)) (formulaOf rs (g .0))) ⌝ }
+{
+    if opposed(said(formulas, count, f), denied(formulas, count, g)) {
+        return true;
+    }
+    opposed(said(formulas, count, g), denied(formulas, count, f))
+}
