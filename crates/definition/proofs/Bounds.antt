@@ -236,7 +236,7 @@ module _ (P : Rec → Type 0) (ok : (r : Rec) → RecordFits r → P r) where
         necessities = each-map (λ (a : Necessity) (q : NecessityFits m n a). (q .0, omega (arith, q .1, lt, lu))) (r .necessities) (fits .necessities);
       })
 
-  bounded-step : (F : Flags) (k : ℕ) (s : State) → k ≤ 256 → stops s ≡ false → Bounded F k s → Bounded F k (step F s)
+  pub bounded-step : (F : Flags) (k : ℕ) (s : State) → k ≤ 256 → stops s ≡ false → Bounded F k s → Bounded F k (step F s)
   unfolding stops ended step stepBy
   bounded-step F k s small e h = go (pop (s .formulas) (s .nodes) (s .waiting)) (pop-out (λ x. x < length (s .nodes)) (s .formulas) (s .nodes) (s .waiting)) (due F s busy (h .counted)) (known-step F s (h .known))
     where

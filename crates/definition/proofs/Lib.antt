@@ -22,5 +22,6 @@ pub mod Linking
 pub mod Growing
 pub mod Made
 pub mod Fields
+pub mod Ready
 pub mod Calls
 pub mod Computed
