@@ -1,0 +1,20 @@
+use borrow.Author.Needs.{needs}
+use Prim.Native.Nat.{ℕ}
+use mathlib.Core.Path.{ap, _∙_}
+use Rattle.definition.specs.Records.{formulaOf}
+use Rattle.definition.specs.Queue.{priorityOf, getNodePriority}
+use Rattle.queue.proofs.get_node_priority.Statement.{statement}
+use Rattle.queue.proofs.get_node_priority.Tie as tie
+
+formula-of-requires : tie.Need-formula-of-requires
+formula-of-requires c κs = search needs
+
+priority-of-requires : tie.Need-priority-of-requires
+priority-of-requires c κs = search needs
+
+returns : tie.Need-returns
+unfolding getNodePriority
+returns c = λ rs ns p k h e. c .priority-of .ensures rs p k ∙ ap (λ (f : ℕ). priorityOf rs (formulaOf rs f)) (c .before .formula-of .ensures ns h e)
+
+pub get-node-priority-spec : {M : Type 1} → statement M
+get-node-priority-spec = tie.close (tie.spec formula-of-requires priority-of-requires returns)

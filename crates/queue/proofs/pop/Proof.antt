@@ -1,0 +1,22 @@
+use borrow.Author.Needs.{needs}
+use Rattle.queue.proofs.Taking.{pop-none, pop-some}
+use Rattle.queue.proofs.pop.Statement.{statement}
+use Rattle.queue.proofs.pop.Tie as tie
+
+first-urgent-requires : tie.Need-first-urgent-requires
+first-urgent-requires c κs = search needs
+
+returns : tie.Need-returns
+returns c = λ rs ns q f k h e l g. pop-none l g _ _ (c .before .first-urgent .ensures rs ns q f k h e l g) (c .if1 .taken)
+
+nth-requires : tie.Need-nth-requires
+nth-requires c κs = search needs
+
+remove-requires : tie.Need-remove-requires
+remove-requires c κs = search needs
+
+returns-2 : tie.Need-returns-2
+returns-2 c = λ rs ns q f k h e l g. let s = c .before .before .before .before .if1 .left in pop-some l g _ _ (c .before .before .before .before .before .first-urgent .ensures rs ns q f k h e l g) _ _ _ s (c .before .before .nth .ensures q _ l g s) (c .remove .ensures .0 q l g s)
+
+pub pop-spec : {M : Type 1} → statement M
+pop-spec = tie.close (tie.spec first-urgent-requires returns nth-requires remove-requires returns-2)

@@ -1,0 +1,113 @@
+// The queue of waiting nodes.
+use arrays::nth;
+use arrays::push;
+use arrays::remove;
+use formula::priority_of;
+use tree::ProofTreeNodeID;
+use tree::formula_of;
+use tree::left_of;
+use tree::middle_of;
+use tree::right_of;
+ghost use mathlib.Core.Path.{_≡_};
+ghost use mathlib.Core.List.{List};
+ghost use Prim.Native.Nat.{ℕ, _≤_};
+ghost use lib.ListN.{length};
+ghost use Rattle.arrays.specs.Listed.{Listed};
+ghost use Rattle.definition.specs.Records.{Rec};
+ghost use Rattle.definition.specs.Tree.{Node};
+ghost use Rattle.definition.specs.Queue.{getNodePriority, pop};
+ghost use Rattle.formula.specs.Recorded.{Recorded};
+ghost use Rattle.tree.specs.Lay.{lay};
+ghost use Rattle.queue.specs.Taking.{takenAt, answer, afterwards};
+ghost use Rattle.queue.specs.Pushing.{pushTreeNode};
+
+// A node that is taken, and how many go on waiting; or none, where no node waits.
+pub enum Popped {
+    None,
+    Node { id: ProofTreeNodeID, waiting: usize },
+}
+
+// The class of a node: 0 is first, 1 in the middle, 2 last.
+pub fn get_node_priority(
+    formulas: &[u16; 5120],
+    count: usize,
+    tree: &[u16; 4608],
+    x: ProofTreeNodeID,
+) -> u16
+    ensures { λ r. ⌜ ((rs : List Rec) (ns : List Node) → Recorded rs count (now (formulas .entry)) → count ≤ 1280 → length ns ≤ 512 → now (tree .entry) ≡ lay ns
+        → r ≡ getNodePriority rs ns (x .0)) ⌝ }
+{
+    priority_of(formulas, count, formula_of(tree, x))
+}
+
+// The position of the first waiting node of the most urgent class; n where none waits.
+pub fn first_urgent(
+    formulas: &[u16; 5120],
+    count: usize,
+    tree: &[u16; 4608],
+    wait: &[u16; 512],
+    n: usize,
+) -> usize
+    ensures { λ r. ⌜ ((rs : List Rec) (ns : List Node) (q : List ℕ) → Recorded rs count (now (formulas .entry)) → count ≤ 1280 → length ns ≤ 512 → now (tree .entry) ≡ lay ns
+        → Listed q n (now (wait .entry)) → n ≤ 512 → pop rs ns q ≡ takenAt q r) ⌝ }
+{
+    let mut class: u16 = 0;
+    'classes: loop {
+        if class == 3 {
+            break n;
+        }
+        let mut i: usize = 0;
+        while i < n {
+            let x = ProofTreeNodeID(nth(wait, i));
+            if get_node_priority(formulas, count, tree, x) == class {
+                break 'classes i;
+            }
+            i += 1;
+        }
+        class += 1;
+    }
+}
+
+// Takes the first waiting node of the most urgent class out.
+pub fn pop(
+    formulas: &[u16; 5120],
+    count: usize,
+    tree: &[u16; 4608],
+    wait: &mut [u16; 512],
+    n: usize,
+) -> Popped
+    ensures { λ r. ⌜ ((rs : List Rec) (ns : List Node) (q : List ℕ) → Recorded rs count (now (formulas .entry)) → count ≤ 1280 → length ns ≤ 512 → now (tree .entry) ≡ lay ns
+        → Listed q n (now (wait .entry)) → n ≤ 512
+        → (r ≡ answer (pop rs ns q)) × Listed (afterwards q (pop rs ns q)) (length (afterwards q (pop rs ns q))) (now (wait .exit))) ⌝ }
+{
+    let at = first_urgent(formulas, count, tree, wait, n);
+    if n <= at {
+        return Popped::None;
+    }
+    let id = ProofTreeNodeID(nth(wait, at));
+    let waiting = remove(wait, n, at);
+    Popped::Node { id, waiting }
+}
+
+// The nodes at and below x: left, middle and right, then x itself. A tree meets each node once, so that none is queued twice.
+pub fn push_tree_node(
+    tree: &[u16; 4608],
+    wait: &mut [u16; 512],
+    n: usize,
+    x: ProofTreeNodeID,
+    depth: usize,
+) -> usize
+    ensures { λ r. ⌜ ((ns : List Node) (q : List ℕ) → length ns ≤ 512 → now (tree .entry) ≡ lay ns → Listed q n (now (wait .entry))
+        → Listed (pushTreeNode depth ns q (x .0)) r (now (wait .exit))) ⌝ }
+{
+    if depth == 0 {
+        return n;
+    }
+    if x.is_none() {
+        return n;
+    }
+    let a = push_tree_node(tree, wait, n, left_of(tree, x), depth - 1);
+    let b = push_tree_node(tree, wait, a, middle_of(tree, x), depth - 1);
+    let c = push_tree_node(tree, wait, b, right_of(tree, x), depth - 1);
+    push(wait, c, x.0)
+}

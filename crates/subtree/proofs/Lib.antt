@@ -1,0 +1,4 @@
+pub mod Chains
+pub mod Subtrees
+pub mod Placing
+pub mod Rows

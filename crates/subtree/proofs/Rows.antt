@@ -1,0 +1,251 @@
+-- Rows of targeted subtrees: stored, read, and placed one after the other.
+use Prim.Native.Nat.{ℕ, zero, suc, _+_, _*_, _<_, _≤_}
+use mathlib.Core.Path.{_≡_, refl, sym, ap, _∙_, subst}
+use mathlib.Core.Bool.{Bool, true, false, cond, not}
+use mathlib.Core.List.{List, [], _∷_, _++_, map, append-assoc, append-nil}
+use native.Mathlib.Omega.{arith}
+use native.Mathlib.Nat.{pos-of-ne-zero}
+use native.Mathlib.Numerals.{add-one}
+use lib.Dec.{eqb, eqb·suc-zero}
+use lib.ListN.{length, getD, set, drop, replicate, length-append, drop-of-length-le, List·getD-append}
+use lib.Seq.{drop-cons, getD-append-add}
+use Rattle.arrays.specs.Data.{pad}
+use Rattle.arrays.specs.Listed.{Listed}
+use Rattle.arrays.proofs.Laws.{getD-pad, snoc-pad}
+use Rattle.definition.specs.Lists.{upFrom, concatMap, Each}
+use Rattle.definition.specs.Tree.{Node}
+use Rattle.definition.specs.Subtree.{Subtree, Targeted, Placed, flat, withMiddle, appendSubtree, appendLogicRuleResult}
+use Rattle.definition.proofs.Lists.{true-false, each-map, each-append}
+use Rattle.definition.proofs.Nodes.{ext-subtree, ext-result}
+use Rattle.definition.proofs.Issued.{length-from}
+use Rattle.tree.specs.Lay.{Held}
+use Rattle.tree.proofs.Nodes.{held-ok, held-long}
+use Rattle.subtree.specs.declared.ProofSubtree.{ProofSubtree}
+use Rattle.subtree.specs.declared.Counts.{Counts}
+use Rattle.subtree.specs.Subtree.{subtreeOf, Within, Left}
+use Rattle.subtree.specs.Rows.{Row, Rows, rows, tooMany, cells, filled, itemFrom}
+use Rattle.subtree.proofs.Subtrees.{within-more}
+use Rattle.subtree.proofs.Placing.{left-as, subtree-nothing}
+
+-- ---- rows with a node, and rows without
+abbrev some-node : ℕ → Bool
+some-node k = not (eqb k 0)
+
+has-node : (k : ℕ) → (k ≡ 0 → ⊥) → some-node k ≡ true
+has-node zero z = absurd (z refl)
+has-node (suc k) z = ap not (eqb·suc-zero k)
+
+no-node : (k : ℕ) → some-node k ≡ false → k ≡ 0
+no-node zero e = refl
+no-node (suc k) e = true-false (sym (ap not (eqb·suc-zero k)) ∙ e)
+
+filled-snoc : (rs : List Row) (r : Row) → filled (rs ++ (r ∷ [])) ≡ filled rs ++ filled (r ∷ [])
+filled-snoc [] r = refl
+filled-snoc (x ∷ rs) r = go (some-node (x .count)) (filled-snoc rs r)
+  where
+    go : (b : Bool) → filled (rs ++ (r ∷ [])) ≡ filled rs ++ filled (r ∷ []) →
+        cond b (x ∷ filled (rs ++ (r ∷ []))) (filled (rs ++ (r ∷ []))) ≡ cond b (x ∷ filled rs) (filled rs) ++ filled (r ∷ [])
+    go true e = ap (λ (l : List Row). x ∷ l) e
+    go false e = e
+
+module _ (rs : List Row) (r : Row) where
+  filled-more : (r .count ≡ 0 → ⊥) → filled (rs ++ (r ∷ [])) ≡ filled rs ++ (r ∷ [])
+  filled-more z = filled-snoc rs r ∙ ap (λ (b : Bool). filled rs ++ cond b (r ∷ []) []) (has-node (r .count) z)
+
+  filled-same : r .count ≡ 0 → filled (rs ++ (r ∷ [])) ≡ filled rs
+  filled-same z = filled-snoc rs r ∙ ap (λ (k : ℕ). filled rs ++ cond (some-node k) (r ∷ []) []) z ∙ append-nil (filled rs)
+
+-- a row without a node places nothing
+result-filled : (rs : List Row) (t : List Node) (q : List ℕ) → appendLogicRuleResult t q (map itemFrom (filled rs)) ≡ appendLogicRuleResult t q (map itemFrom rs)
+unfolding appendLogicRuleResult flat
+result-filled [] t q = refl
+result-filled (r ∷ rs) t q = go (some-node (r .count)) refl (result-filled rs)
+  where
+    s : Subtree
+    s = withMiddle (upFrom (r .count) (r .start))
+
+    none : r .count ≡ 0 → length (flat (withMiddle (upFrom (r .count) (r .start)))) ≡ 0
+    none z = omega (arith, z, length-append (upFrom (r .count) (r .start)) [], length-from (r .count) (r .start))
+
+    go : (b : Bool) → some-node (r .count) ≡ b
+        → ((u : List Node) (w : List ℕ) → appendLogicRuleResult u w (map itemFrom (filled rs)) ≡ appendLogicRuleResult u w (map itemFrom rs))
+        → appendLogicRuleResult t q (map itemFrom (cond b (r ∷ filled rs) (filled rs)))
+        ≡ appendLogicRuleResult (appendSubtree t q (r .target) s .nodes) (appendSubtree t q (r .target) s .waiting) (map itemFrom rs)
+    go true e f = f (appendSubtree t q (r .target) s .nodes) (appendSubtree t q (r .target) s .waiting)
+    go false e f =
+        f t q ∙ ap (λ (p : Placed). appendLogicRuleResult (p .nodes) (p .waiting) (map itemFrom rs)) (sym (subtree-nothing t q (r .target) s (none (no-node (r .count) e))))
+
+-- ---- a row more
+pub rows-none : (m : ℕ) → Rows [] 0 (replicate 1536 0) m
+unfolding pad
+rows-none m = rows (omega arith) (omega arith) refl refl tt
+
+pub rows-more : {rs : List Row} {n m k : ℕ} {a : List ℕ} → m ≤ k → Rows rs n a m → Rows rs n a k
+rows-more {rs} {n} {m} {k} h (rows b d e q w) = rows b (omega arith) e q (each-map (λ r (i : r .start + r .count ≤ m). omega (arith, i, h)) (filled rs) w)
+rows-more h (tooMany b e) = tooMany b (omega arith)
+
+rows-as : {n m : ℕ} {a : List ℕ} (rs ss : List Row) → filled rs ≡ ss → n ≤ 512 → n ≤ m → length ss ≡ n → a ≡ pad 1536 (concatMap cells ss) → Each (λ (r : Row). r .start + r .count ≤ m) ss → Rows rs n a m
+rows-as {n} {m} rs ss e b d l q w =
+    rows b d (ap length e ∙ l) (q ∙ ap (λ (v : List Row). pad 1536 (concatMap cells v)) (sym e)) (subst (λ (v : List Row). Each (λ (r : Row). r .start + r .count ≤ m) v) (sym e) w)
+
+cells-length : (rs : List Row) → length (concatMap cells rs) ≡ length rs * 3
+cells-length [] = refl
+cells-length (r ∷ rs) = omega (arith, cells-length rs)
+
+cells-snoc : (rs : List Row) (r : Row) → concatMap cells (rs ++ (r ∷ [])) ≡ concatMap cells rs ++ cells r
+cells-snoc [] r = refl
+cells-snoc (x ∷ rs) r = ap (λ (l : List ℕ). cells x ++ l) (cells-snoc rs r)
+
+store : (l : List ℕ) (i v : ℕ) {a : List ℕ} → a ≡ pad 1536 l → i ≡ length l → i < 1536 → set a i v ≡ pad 1536 (l ++ (v ∷ []))
+store l i v q e h = ap (λ (b : List ℕ). set b i v) q ∙ ap (λ (j : ℕ). set (pad 1536 l) j v) e ∙ snoc-pad 1536 l v (omega arith)
+
+module _ {rs : List Row} {n m : ℕ} {a : List ℕ} (r : Row) (h : m ≤ r .start) where
+  pub rows-skip : r .count ≡ 0 → Rows rs n a m → Rows (rs ++ (r ∷ [])) n a (r .start + r .count)
+  rows-skip z (tooMany b e) = tooMany b (omega arith)
+  rows-skip z (rows b d e q w) =
+      rows-as (rs ++ (r ∷ [])) (filled rs) (filled-same rs r z) b (omega arith) e q
+      (each-map (λ v (i : v .start + v .count ≤ m). omega (arith, i, h)) (filled rs) w)
+
+  pub rows-over : {b : List ℕ} → (r .count ≡ 0 → ⊥) → 512 ≤ n → Rows rs n a m → Rows (rs ++ (r ∷ [])) 513 b (r .start + r .count)
+  rows-over z g (rows b d e q w) = tooMany (omega arith) (omega (arith, pos-of-ne-zero z))
+  rows-over z g (tooMany b e) = tooMany (omega arith) (omega arith)
+
+  pub rows-push : (r .count ≡ 0 → ⊥) → n < 512 → Rows rs n a m
+      → Rows (rs ++ (r ∷ [])) (n + 1) (set (set (set a (n * 3) (r .target)) (n * 3 + 1) (r .start)) (n * 3 + 2) (r .count)) (r .start + r .count)
+  rows-push z g (tooMany b e) = absurd (omega arith)
+  rows-push z g (rows b d e q w) =
+      let ss = filled rs in
+      let l = concatMap cells ss in
+      let x = r .target ∷ [] in
+      let y = r .start ∷ [] in
+      let i = cells-length ss in
+      let j = length-append l x in
+      let k = length-append (l ++ x) y in
+      let one = store l (n * 3) (r .target) q (omega arith) (omega arith) in
+      let two = store (l ++ x) (n * 3 + 1) (r .start) one (omega arith) (omega arith) in
+      let all = store ((l ++ x) ++ y) (n * 3 + 2) (r .count) two (omega arith) (omega arith) in
+      rows-as (rs ++ (r ∷ [])) (ss ++ (r ∷ [])) (filled-more rs r z) (omega arith) (omega (arith, pos-of-ne-zero z)) (omega (arith, length-append ss (r ∷ [])))
+      (all ∙ ap (pad 1536) (append-assoc (l ++ x) y (r .count ∷ []) ∙ append-assoc l x (r .start ∷ r .count ∷ []) ∙ sym (cells-snoc ss r)))
+      (each-append (λ (v : Row). v .start + v .count ≤ r .start + r .count) ss (r ∷ [])
+      (each-map (λ v (o : v .start + v .count ≤ m). omega (arith, o, h)) ss w) (omega arith, tt))
+
+-- ---- reads
+abbrev noRow : Row
+noRow = record { target = 0; start = 0; count = 0 }
+
+cells-read : (rs : List Row) (k j : ℕ) → k < length rs → j < 3 → getD (concatMap cells rs) (k * 3 + j) 0 ≡ getD (cells (getD rs k noRow)) j 0
+cells-read [] k j h b = absurd (omega arith)
+cells-read (r ∷ rs) zero j h b =
+    let z : 0 * 3 + j ≡ j = omega arith in
+    ap (λ (i : ℕ). getD (concatMap cells (r ∷ rs)) i 0) z ∙ List·getD-append (cells r) (concatMap cells rs) 0 j b
+cells-read (r ∷ rs) (suc k) j h b =
+    let z : suc k * 3 + j ≡ 3 + (k * 3 + j) = omega arith in
+    ap (λ (i : ℕ). getD (concatMap cells (r ∷ rs)) i 0) z ∙ getD-append-add (cells r) (concatMap cells rs) (k * 3 + j) 0 ∙ cells-read rs k j (omega arith) b
+
+each-get : (P : Row → Type 0) (rs : List Row) (k : ℕ) → k < length rs → Each P rs → P (getD rs k noRow)
+each-get P [] k h e = absurd (omega arith)
+each-get P (r ∷ rs) zero h e = e .0
+each-get P (r ∷ rs) (suc k) h e = each-get P rs k (omega arith) (e .1)
+
+-- rows whose identifiers fit
+module _ {rs : List Row} {n m : ℕ} {a : List ℕ} (g : m ≤ 512) where
+  pub rows-count : Rows rs n a m → (length (filled rs) ≡ n) × (n ≤ 512)
+  rows-count (rows b d e q w) = (e, b)
+  rows-count (tooMany b e) = absurd (omega arith)
+
+  row-read : (k : ℕ) → k < n → Rows rs n a m → (j : ℕ) → j < 3 → getD a (k * 3 + j) 0 ≡ getD (cells (getD (filled rs) k noRow)) j 0
+  row-read k h (tooMany b e) j i = absurd (omega arith)
+  row-read k h (rows b d e q w) j i =
+      ap (λ (l : List ℕ). getD l (k * 3 + j) 0) q ∙ getD-pad 1536 (concatMap cells (filled rs)) (k * 3 + j) ∙ cells-read (filled rs) k j (omega arith) i
+
+  row-below : (k : ℕ) → k < n → Rows rs n a m → getD (filled rs) k noRow .start + getD (filled rs) k noRow .count ≤ m
+  row-below k h (tooMany b e) = absurd (omega arith)
+  row-below k h (rows b d e q w) = each-get (λ (r : Row). r .start + r .count ≤ m) (filled rs) k (omega arith) w
+
+-- ---- the loop of `append_logic_rule_result`: the rows that are left lead to the goal
+pub record Joining (goal : Placed) (rest : List Row) (low : ℕ) (r : Counts) (a w : List ℕ) : Type 0 where
+  pub so-far : Placed
+  pub here : Left so-far r a w
+  pub longer : low ≤ length (so-far .nodes)
+  pub same : appendLogicRuleResult (so-far .nodes) (so-far .waiting) (map itemFrom rest) ≡ goal
+
+pub joining-start : (ns : List Node) (q : List ℕ) (rs : List Row) {len n : ℕ} {a w : List ℕ} → Held ns len a → (len ≤ 512 → Listed q n w)
+    → Joining (appendLogicRuleResult ns q (map itemFrom rs)) (filled rs) (length ns) (record { nodes = len; waiting = n }) a w
+joining-start ns q rs p f =
+    record { so-far = record { nodes = ns; waiting = q }; here = record { nodes = p; queue = f }; longer = omega arith; same = result-filled rs ns q }
+
+abbrev targeted : ℕ → Subtree → Targeted
+targeted x s = record { target = x; subtree = s }
+
+result-cons : (t : List Node) (q : List ℕ) (x : ℕ) (s : Subtree) (is : List Targeted)
+    → appendLogicRuleResult t q (targeted x s ∷ is) ≡ appendLogicRuleResult (appendSubtree t q x s .nodes) (appendSubtree t q x s .waiting) is
+unfolding appendLogicRuleResult
+result-cons t q x s is = refl
+
+result-nil : (t : List Node) (q : List ℕ) → appendLogicRuleResult t q [] ≡ record { nodes = t; waiting = q }
+unfolding appendLogicRuleResult
+result-nil t q = refl
+
+-- what a read of a row's number says
+abbrev Reads : List ℕ → ℕ → ℕ → ℕ → Type 0
+Reads a k j x = k < 512 → j < 3 → x ≡ getD a (k * 3 + j) 0
+
+pub joining-next : {goal : Placed} {low n : ℕ} {r r′ : Counts} {a a′ w w′ items : List ℕ} (rs : List Row) (k : ℕ) (s : ProofSubtree) (x u v : ℕ)
+    → k < n → low ≤ 512 → Rows rs n items low → Reads items k 0 x → Reads items k 1 u → Reads items k 2 v
+    → (subtreeOf s ≡ withMiddle (upFrom v u)) × ((m : ℕ) → u + v ≤ m → Within s m)
+    → Joining goal (drop k (filled rs)) low r a w
+    → ((ns : List Node) (q : List ℕ) → Held ns (r .nodes) a → (r .nodes ≤ 512 → Listed q (r .waiting) w) → Within s (length ns) → Left (appendSubtree ns q x (subtreeOf s)) r′ a′ w′)
+    → Joining goal (drop (k + 1) (filled rs)) low r′ a′ w′
+joining-next {goal} {low} {n} rs k s x u v h g t ex eu ev b c f =
+    record {
+      so-far = appendSubtree ns q x (subtreeOf s);
+      here = f ns q (c .here .nodes) (c .here .queue) (within-more s (c .longer) (b .1 low (omega (arith, qu, qv, row-below g k h t))));
+      longer = omega (arith, c .longer, ext-subtree ns q x (subtreeOf s) .longer);
+      same =
+          ap (λ (i : ℕ). appendLogicRuleResult (appendSubtree ns q x (subtreeOf s) .nodes) (appendSubtree ns q x (subtreeOf s) .waiting) (map itemFrom (drop i ss))) (add-one k)
+          ∙ sym (result-cons ns q x (subtreeOf s) (map itemFrom (drop (suc k) ss)))
+          ∙ ap (λ (i : Targeted). appendLogicRuleResult ns q (i ∷ map itemFrom (drop (suc k) ss))) item
+          ∙ ap (λ (l : List Row). appendLogicRuleResult ns q (map itemFrom l)) (sym (drop-cons ss k noRow (omega (arith, rows-count g t .0))))
+          ∙ c .same;
+    }
+  where
+    ns : List Node
+    ns = c .so-far .nodes
+
+    q : List ℕ
+    q = c .so-far .waiting
+
+    ss : List Row
+    ss = filled rs
+
+    low-k : k < 512
+    low-k = omega (arith, rows-count g t .1)
+
+    qx : x ≡ getD ss k noRow .target
+    qx = ex low-k (omega arith) ∙ row-read g k h t 0 (omega arith)
+
+    qu : u ≡ getD ss k noRow .start
+    qu = eu low-k (omega arith) ∙ row-read g k h t 1 (omega arith)
+
+    qv : v ≡ getD ss k noRow .count
+    qv = ev low-k (omega arith) ∙ row-read g k h t 2 (omega arith)
+
+    item : targeted x (subtreeOf s) ≡ itemFrom (getD ss k noRow)
+    item =
+        ap (λ (y : ℕ). targeted y (subtreeOf s)) qx
+        ∙ ap (targeted (getD ss k noRow .target))
+        (b .0 ∙ ap (λ (y : ℕ). withMiddle (upFrom y u)) qv ∙ ap (λ (y : ℕ). withMiddle (upFrom (getD ss k noRow .count) y)) qu)
+
+pub joining-end : {goal : Placed} {low : ℕ} {r : Counts} {a w : List ℕ} (rs : List Row) (k : ℕ) → length rs ≤ k → Joining goal (drop k rs) low r a w → Left goal r a w
+joining-end {goal} rs k h c =
+    let t = c .so-far .nodes in
+    let q = c .so-far .waiting in
+    left-as goal (sym (result-nil t q) ∙ ap (λ (l : List Row). appendLogicRuleResult t q (map itemFrom l)) (sym (drop-of-length-le rs h)) ∙ c .same) (c .here)
+
+pub joining-full : {ns : List Node} {len n : ℕ} {a w : List ℕ} (q : List ℕ) (is : List Targeted) → 512 < len → Held ns len a
+    → Left (appendLogicRuleResult ns q is) (record { nodes = len; waiting = n }) a w
+joining-full {ns} q is h p = record { nodes = held-long (appendLogicRuleResult ns q is .nodes) p h (ext-result is ns q .longer); queue = λ i. absurd (omega arith) }
+
+-- the nodes of a table that is not full
+pub held-few : {ns : List Node} {len : ℕ} {a : List ℕ} → Held ns len a → len ≤ 512 → length ns ≤ 512
+held-few p h = omega (arith, held-ok p h .0)

@@ -1,0 +1,53 @@
+use Prim.Native.Nat.{_≤_, _-_}
+use mathlib.Core.List.{List, _++_, map}
+use lib.ListN.{length, take}
+use Rattle.definition.specs.Tree.{Node}
+use Rattle.definition.specs.Subtree.{copied}
+use Rattle.tree.specs.Lay.{Held}
+use Rattle.tree.specs.Chain.{chainOf, Below}
+use Rattle.subtree.proofs.Chains.{copying-start, copying-next, copying-end}
+use borrow.Author.Needs.{needs}
+use Rattle.subtree.proofs.copy_chain.Statement.{statement}
+use Rattle.subtree.proofs.copy_chain.Tie as tie
+
+abbrev Inv-loop : tie.InvT-loop
+Inv-loop tree₀ len c n m₀ k₀ tree m k = (k ≤ n) × ((ns : List Node) → Held ns len tree₀ → Below c (length ns) → Held (ns ++ map (copied ns) (take k (chainOf c))) m tree)
+
+abbrev μ-loop : tie.MeasureT-loop
+μ-loop tree₀ len c n m₀ k₀ tree m k = n - k
+
+cast-n : tie.Need-cast-n Inv-loop μ-loop
+cast-n c = search needs
+
+loop-holds : tie.Need-loop-holds Inv-loop μ-loop
+loop-holds c = (search needs, λ ns p b. copying-start ns (chainOf (c .before .args .c)) p)
+
+chain-at-requires : tie.Need-chain-at-requires Inv-loop μ-loop
+chain-at-requires c κs = search needs
+
+spawner-of-requires : tie.Need-spawner-of-requires Inv-loop μ-loop
+spawner-of-requires c κs = search needs
+
+formula-of-requires : tie.Need-formula-of-requires Inv-loop μ-loop
+formula-of-requires c κs = search needs
+
+world-of-requires : tie.Need-world-of-requires Inv-loop μ-loop
+world-of-requires c κs = search needs
+
+new-node-requires : tie.Need-new-node-requires Inv-loop μ-loop
+new-node-requires c κs = search needs
+
+add-k : tie.Need-add-k Inv-loop μ-loop
+add-k c = search needs
+
+loop-less : tie.Need-loop-less Inv-loop μ-loop
+loop-less c = search needs
+
+loop-again : tie.Need-loop-again Inv-loop μ-loop
+loop-again c = (search needs, λ ns p b. copying-next ns (c .before .before .before .before .before .before .before .before .before .before .before .before .args .c) (c .before .before .before .before .before .before .before .before .before .before .loop .k) _ _ _ _ (c .before .before .before .before .before .before .before .before .before .loop-test .taken) b (c .before .before .before .before .before .before .before .before .before .before .loop .inv .1 ns p b) (c .before .before .before .before .before .before .before .before .chain-at .ensures) (c .before .before .before .before .before .before .spawner-of .ensures) (c .before .before .before .before .formula-of .ensures) (c .before .before .world-of .ensures) (c .new-node .ensures))
+
+returns : tie.Need-returns Inv-loop μ-loop
+returns c = λ ns p b. copying-end ns (c .before .before .before .args .c) (c .before .loop .k) (c .loop-test .left) (c .before .loop .inv .1 ns p b)
+
+pub copy-chain-spec : {M : Type 1} → statement M
+copy-chain-spec = tie.close (tie.spec Inv-loop μ-loop cast-n loop-holds chain-at-requires spawner-of-requires formula-of-requires world-of-requires new-node-requires add-k loop-less loop-again returns)

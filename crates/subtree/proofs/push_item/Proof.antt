@@ -1,0 +1,52 @@
+use Rattle.subtree.proofs.Rows.{rows-skip, rows-over, rows-push}
+use borrow.Author.Needs.{needs}
+use Rattle.subtree.proofs.push_item.Statement.{statement}
+use Rattle.subtree.proofs.push_item.Tie as tie
+
+returns : tie.Need-returns
+returns c = λ rs m p h. rows-skip _ h (c .if1 .taken) p
+
+returns-2 : tie.Need-returns-2
+returns-2 c = λ rs m p h. rows-over _ h (c .before .if1 .left) (c .if2 .taken) p
+
+mul-items : tie.Need-mul-items
+mul-items c = search needs
+
+mul-items-2 : tie.Need-mul-items-2
+mul-items-2 c = search needs
+
+element-write-items : tie.Need-element-write-items
+element-write-items c = search needs
+
+mul-items-3 : tie.Need-mul-items-3
+mul-items-3 c = search needs
+
+add-items : tie.Need-add-items
+add-items c = search needs
+
+mul-items-4 : tie.Need-mul-items-4
+mul-items-4 c = search needs
+
+element-write-items-2 : tie.Need-element-write-items-2
+element-write-items-2 c = search needs
+
+mul-items-5 : tie.Need-mul-items-5
+mul-items-5 c = search needs
+
+add-items-2 : tie.Need-add-items-2
+add-items-2 c = search needs
+
+mul-items-6 : tie.Need-mul-items-6
+mul-items-6 c = search needs
+
+element-write-items-3 : tie.Need-element-write-items-3
+element-write-items-3 c = search needs
+
+add-result : tie.Need-add-result
+add-result c = search needs
+
+returns-3 : tie.Need-returns-3
+returns-3 c = λ rs m p h. rows-push _ h (c .before .if1 .left) (c .if2 .left) p
+
+pub push-item-spec : {M : Type 1} → statement M
+push-item-spec = tie.close (tie.spec returns returns-2 mul-items mul-items-2 element-write-items mul-items-3 add-items mul-items-4 element-write-items-2 mul-items-5 add-items-2 mul-items-6 element-write-items-3 add-result returns-3)

@@ -1,0 +1,2 @@
+pub mod Subtree
+pub mod Rows

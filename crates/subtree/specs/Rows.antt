@@ -1,0 +1,31 @@
+-- Targeted subtrees that are one middle chain of rising identifiers, three numbers to a row: target, start and count.
+use Prim.Native.Nat.{ℕ, _+_, _≤_, _<_}
+use mathlib.Core.Path.{_≡_}
+use mathlib.Core.Bool.{not}
+use mathlib.Core.List.{List, [], _∷_}
+use lib.Dec.{eqb}
+use lib.ListN.{length}
+use Rattle.arrays.specs.Data.{pad}
+use Rattle.definition.specs.Lists.{upFrom, concatMap, filter, Each}
+use Rattle.definition.specs.Subtree.{Targeted, withMiddle}
+
+pub record Row : Type 0 where
+  pub target : ℕ
+  pub start : ℕ
+  pub count : ℕ
+
+abbrev pub itemFrom : Row → Targeted
+itemFrom r = record { target = r .target; subtree = withMiddle (upFrom (r .count) (r .start)) }
+
+abbrev pub cells : Row → List ℕ
+cells r = r .target ∷ r .start ∷ r .count ∷ []
+
+-- the rows that have a node; a row that has none places nothing
+abbrev pub filled : List Row → List Row
+filled = filter (λ (r : Row). not (eqb (r .count) 0))
+
+-- The array holds those rows, whose identifiers are below m, and n is their count. A count above 512 says that there are
+-- more than 512 identifiers, and nothing of the array.
+pub data Rows (rs : List Row) (n : ℕ) (a : List ℕ) (m : ℕ) : Type 0 where
+  rows : n ≤ 512 → n ≤ m → length (filled rs) ≡ n → a ≡ pad 1536 (concatMap cells (filled rs)) → Each (λ (r : Row). r .start + r .count ≤ m) (filled rs) → Rows rs n a m
+  tooMany : 512 < n → 512 < m → Rows rs n a m

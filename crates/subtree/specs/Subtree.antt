@@ -1,0 +1,23 @@
+-- A subtree as three chains, and what placing leaves.
+use Prim.Native.Nat.{ℕ, _≤_}
+use mathlib.Core.List.{List}
+use Rattle.arrays.specs.Listed.{Listed}
+use Rattle.definition.specs.Subtree.{Subtree, Placed}
+use Rattle.tree.specs.Lay.{Held}
+use Rattle.tree.specs.Chain.{chainOf, Below}
+use Rattle.subtree.specs.declared.ProofSubtree.{ProofSubtree}
+use Rattle.subtree.specs.declared.Counts.{Counts}
+
+unfoldable pub subtreeOf : ProofSubtree → Subtree
+subtreeOf s = record { left = chainOf (s .left); middle = chainOf (s .middle); right = chainOf (s .right) }
+
+-- each identifier is below m
+pub record Within (s : ProofSubtree) (m : ℕ) : Type 0 where
+  pub onLeft : Below (s .left) m
+  pub onMiddle : Below (s .middle) m
+  pub onRight : Below (s .right) m
+
+-- the table holds the nodes, and, where these fit, the queue holds the waiting nodes
+pub record Left (p : Placed) (r : Counts) (a w : List ℕ) : Type 0 where
+  pub nodes : Held (p .nodes) (r .nodes) a
+  pub queue : r .nodes ≤ 512 → Listed (p .waiting) (r .waiting) w

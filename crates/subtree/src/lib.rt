@@ -1,0 +1,348 @@
+// Subtrees: copied, appended below the leaves that take them, and queued.
+use arrays::nth;
+use arrays::push;
+use tree::Chain;
+use tree::ProofTreeNodeID;
+use tree::chain_at;
+use tree::formula_of;
+use tree::link_chain;
+use tree::new_node;
+use tree::spawner_of;
+use tree::takers_below;
+use tree::world_of;
+ghost use mathlib.Core.Path.{_≡_};
+ghost use mathlib.Core.List.{List, [], _∷_, _++_, map, reverse};
+ghost use Prim.Native.Nat.{ℕ, _≤_, _<_, _+_, _*_};
+ghost use lib.ListN.{length, getD, drop};
+ghost use Rattle.arrays.specs.Listed.{Listed};
+ghost use Rattle.definition.specs.Lists.{upFrom};
+ghost use Rattle.definition.specs.Tree.{Node};
+ghost use Rattle.definition.specs.Subtree.{withMiddle, flat, numbered, copied, appendSubtreeOnLeaf, pushSubtree, appendCopies, appendOn, appendSubtree, appendLogicRuleResult};
+ghost use Rattle.tree.specs.Lay.{Held};
+ghost use Rattle.tree.specs.Chain.{chainOf, Below};
+ghost use Rattle.subtree.specs.Subtree.{subtreeOf, Within, Left};
+ghost use Rattle.subtree.specs.Rows.{Row, Rows, itemFrom};
+
+pub struct ProofSubtree {
+    pub left: Chain,
+    pub middle: Chain,
+    pub right: Chain,
+}
+
+// How many nodes there are and how many wait; more than 512 nodes: full.
+pub struct Counts {
+    pub nodes: usize,
+    pub waiting: usize,
+}
+
+// The same chain from the other end.
+pub fn turned(c: Chain) -> Chain
+    ensures { λ r. ⌜ (chainOf r ≡ reverse (chainOf c)) × (r .start ≡ c .start) × (r .count ≡ c .count) ⌝ }
+{
+    Chain {
+        start: c.start,
+        count: c.count,
+        rising: !c.rising,
+    }
+}
+
+// `count` identifiers from `start` on, the first on top.
+fn rising(start: u16, count: u16) -> Chain
+    ensures { λ r. ⌜ (r .start ≡ start) × (r .count ≡ count) × (chainOf r ≡ upFrom count start) ⌝ }
+{
+    Chain {
+        start,
+        count,
+        rising: true,
+    }
+}
+
+// A middle chain of rising identifiers alone.
+pub fn with_middle_vertical_nodes(start: u16, count: u16) -> ProofSubtree
+    ensures { λ r. ⌜ (subtreeOf r ≡ withMiddle (upFrom count start)) × ((m : ℕ) → start + count ≤ m → Within r m) ⌝ }
+{
+    ProofSubtree {
+        left: rising(0, 0),
+        middle: rising(start, count),
+        right: rising(0, 0),
+    }
+}
+
+// How many nodes the subtree has.
+pub fn size(s: ProofSubtree) -> usize
+    ensures { λ r. ⌜ r ≡ length (flat (subtreeOf s)) ⌝ }
+{
+    let l = s.left;
+    let m = s.middle;
+    let r = s.right;
+    l.count as usize + m.count as usize + r.count as usize
+}
+
+// A copy of each node of the chain, in its order.
+pub fn copy_chain(tree: &mut [u16; 4608], len: usize, c: Chain) -> usize
+    ensures { λ r. ⌜ ((ns : List Node) → Held ns len (now (tree .entry)) → Below c (length ns) → Held (ns ++ map (copied ns) (chainOf c)) r (now (tree .exit))) ⌝ }
+{
+    let n = c.count as usize;
+    let mut m = len;
+    let mut k: usize = 0;
+    while k < n {
+        let x = chain_at(c, k);
+        let s = spawner_of(tree, x);
+        let f = formula_of(tree, x);
+        let w = world_of(tree, x);
+        m = new_node(tree, m, s, f, w);
+        k += 1;
+    }
+    m
+}
+
+// A copy of each node of the subtree.
+pub fn copy_subtree(tree: &mut [u16; 4608], len: usize, s: ProofSubtree) -> usize
+    ensures { λ r. ⌜ ((ns : List Node) → Held ns len (now (tree .entry)) → Within s (length ns) → Held (ns ++ map (copied ns) (flat (subtreeOf s))) r (now (tree .exit))) ⌝ }
+{
+    let l = s.left;
+    let m = s.middle;
+    let r = s.right;
+    let a = copy_chain(tree, len, l);
+    let b = copy_chain(tree, a, m);
+    copy_chain(tree, b, r)
+}
+
+// The identifiers that a copy of the subtree gets, where they fit.
+pub fn attach_new_ids(s: ProofSubtree, len: usize) -> ProofSubtree
+    ensures { λ r. ⌜ ((ns : List Node) (a : List ℕ) → Held ns len a → Within s (length ns)
+        → Within r (length ns + length (flat (subtreeOf s))) × (length ns + length (flat (subtreeOf s)) ≤ 512 → subtreeOf r ≡ numbered (length ns) (subtreeOf s))) ⌝ }
+{
+    if 512 < len {
+        return s;
+    }
+    let l = s.left;
+    let m = s.middle;
+    let r = s.right;
+    let a = len + l.count as usize;
+    let b = a + m.count as usize;
+    if 512 < b + r.count as usize {
+        return s;
+    }
+    ProofSubtree {
+        left: rising(len as u16, l.count),
+        middle: rising(a as u16, m.count),
+        right: rising(b as u16, r.count),
+    }
+}
+
+// The subtree becomes what stands below the leaf.
+pub fn append_subtree_on_leaf(
+    tree: &mut [u16; 4608],
+    len: usize,
+    leaf: ProofTreeNodeID,
+    s: ProofSubtree,
+)
+    ensures { λ r. ⌜ ((ns : List Node) → Held ns len (now (tree .entry)) → Within s (length ns) → Held (appendSubtreeOnLeaf ns (leaf .0) (subtreeOf s)) len (now (tree .exit))) ⌝ }
+{
+    let l = s.left;
+    let m = s.middle;
+    let r = s.right;
+    link_chain(tree, len, leaf, 1, l);
+    link_chain(tree, len, leaf, 2, m);
+    link_chain(tree, len, leaf, 3, r);
+}
+
+// The chain's identifiers, top first, at the end of a list.
+pub fn push_chain(out: &mut [u16; 512], start: usize, c: Chain) -> usize
+    ensures { λ r. ⌜ ((q : List ℕ) → Listed q start (now (out .entry)) → Below c 512 → Listed (q ++ chainOf c) r (now (out .exit))) ⌝ }
+{
+    let n = c.count as usize;
+    let mut m = start;
+    let mut k: usize = 0;
+    while k < n {
+        let x = chain_at(c, k);
+        m = push(out, m, x.0);
+        k += 1;
+    }
+    m
+}
+
+// The subtree's identifiers at the end of the queue, each chain from the bottom up.
+pub fn push_subtree(wait: &mut [u16; 512], n: usize, s: ProofSubtree) -> usize
+    ensures { λ r. ⌜ ((q : List ℕ) → Listed q n (now (wait .entry)) → Within s 512 → Listed (pushSubtree q (subtreeOf s)) r (now (wait .exit))) ⌝ }
+{
+    let l = s.left;
+    let m = s.middle;
+    let r = s.right;
+    let a = push_chain(wait, n, turned(l));
+    let b = push_chain(wait, a, turned(m));
+    push_chain(wait, b, turned(r))
+}
+
+// A copy of the subtree below one leaf.
+pub fn append_copy(
+    tree: &mut [u16; 4608],
+    len: usize,
+    leaf: ProofTreeNodeID,
+    s: ProofSubtree,
+    wait: &mut [u16; 512],
+    n: usize,
+) -> Counts
+    ensures { λ r. ⌜ ((ns : List Node) (q : List ℕ) → Held ns len (now (tree .entry)) → (len ≤ 512 → Listed q n (now (wait .entry))) → Within s (length ns)
+        → Left (appendCopies ns q (leaf .0 ∷ []) (subtreeOf s)) r (now (tree .exit)) (now (wait .exit))) ⌝ }
+{
+    let m = copy_subtree(tree, len, s);
+    let t = attach_new_ids(s, len);
+    append_subtree_on_leaf(tree, m, leaf, t);
+    let w = push_subtree(wait, n, t);
+    Counts {
+        nodes: m,
+        waiting: w,
+    }
+}
+
+// A copy of the subtree below each of the leaves, from the given one on.
+pub fn append_copies(
+    tree: &mut [u16; 4608],
+    len: usize,
+    leaves: &[u16; 512],
+    m: usize,
+    from: usize,
+    s: ProofSubtree,
+    wait: &mut [u16; 512],
+    n: usize,
+) -> Counts
+    ensures { λ r. ⌜ ((ns : List Node) (q ls : List ℕ) → Held ns len (now (tree .entry)) → (len ≤ 512 → Listed q n (now (wait .entry))) → Within s (length ns)
+        → Listed ls m (now (leaves .entry)) → m ≤ 512 → Left (appendCopies ns q (drop from ls) (subtreeOf s)) r (now (tree .exit)) (now (wait .exit))) ⌝ }
+{
+    let mut here = Counts {
+        nodes: len,
+        waiting: n,
+    };
+    let mut k = from;
+    while k < m {
+        let leaf = ProofTreeNodeID(nth(leaves, k));
+        here = append_copy(tree, here.nodes, leaf, s, wait, here.waiting);
+        k += 1;
+    }
+    here
+}
+
+// Below the first of the leaves the subtree, below each further one a copy.
+pub fn append_on(
+    tree: &mut [u16; 4608],
+    len: usize,
+    leaves: &[u16; 512],
+    m: usize,
+    s: ProofSubtree,
+    wait: &mut [u16; 512],
+    n: usize,
+) -> Counts
+    ensures { λ r. ⌜ ((ns : List Node) (q ls : List ℕ) → Held ns len (now (tree .entry)) → (len ≤ 512 → Listed q n (now (wait .entry))) → Within s (length ns)
+        → Listed ls m (now (leaves .entry)) → m ≤ 512 → Left (appendOn ns q ls (subtreeOf s)) r (now (tree .exit)) (now (wait .exit))) ⌝ }
+{
+    let w = push_subtree(wait, n, s);
+    if m == 0 {
+        return Counts {
+            nodes: len,
+            waiting: w,
+        };
+    }
+    let leaf = ProofTreeNodeID(nth(leaves, 0));
+    append_subtree_on_leaf(tree, len, leaf, s);
+    append_copies(tree, len, leaves, m, 1, s, wait, w)
+}
+
+// The subtree, below each leaf whose path holds the target and has no contradictory node. More than 512 nodes: full.
+pub fn append_subtree(
+    tree: &mut [u16; 4608],
+    len: usize,
+    target: ProofTreeNodeID,
+    s: ProofSubtree,
+    wait: &mut [u16; 512],
+    n: usize,
+) -> Counts
+    ensures { λ r. ⌜ ((ns : List Node) (q : List ℕ) → Held ns len (now (tree .entry)) → (len ≤ 512 → Listed q n (now (wait .entry))) → Within s (length ns)
+        → Left (appendSubtree ns q (target .0) (subtreeOf s)) r (now (tree .exit)) (now (wait .exit))) ⌝ }
+{
+    let as_it_was = Counts {
+        nodes: len,
+        waiting: n,
+    };
+    if 512 < len {
+        return as_it_was;
+    }
+    if size(s) == 0 {
+        return as_it_was;
+    }
+    let mut found = [0u16; 512];
+    let m = takers_below(tree, len, target, ProofTreeNodeID(0), len, &mut found, 0);
+    if 512 < m {
+        return Counts {
+            nodes: 513,
+            waiting: n,
+        };
+    }
+    append_on(tree, len, &found, m, s, wait, n)
+}
+
+// Number j of row k of the table of subtrees.
+fn item_field(items: &[u16; 1536], k: usize, j: usize) -> u16
+    ensures { λ r. ⌜ (k < 512 → j < 3 → r ≡ getD (now (items .entry)) (k * 3 + j) 0) ⌝ }
+{
+    if 512 <= k {
+        return 0;
+    }
+    if 3 <= j {
+        return 0;
+    }
+    items[k * 3 + j]
+}
+
+// One subtree more: `n` identifiers from `start` on, above all that are there. None: nothing is stored. 513 where there is no room.
+pub fn push_item(
+    items: &mut [u16; 1536],
+    count: usize,
+    target: ProofTreeNodeID,
+    start: u16,
+    n: u16,
+) -> usize
+    ensures { λ r. ⌜ ((rs : List Row) (m : ℕ) → Rows rs count (now (items .entry)) m → m ≤ start
+        → Rows (rs ++ (record { target = target .0; start = start; count = n } ∷ [])) r (now (items .exit)) (start + n)) ⌝ }
+{
+    if n == 0 {
+        return count;
+    }
+    if 512 <= count {
+        return 513;
+    }
+    items[count * 3] = target.0;
+    items[count * 3 + 1] = start;
+    items[count * 3 + 2] = n;
+    count + 1
+}
+
+// The subtrees of a joined result, placed and queued one after the other.
+pub fn append_logic_rule_result(
+    tree: &mut [u16; 4608],
+    len: usize,
+    items: &[u16; 1536],
+    count: usize,
+    wait: &mut [u16; 512],
+    n: usize,
+) -> Counts
+    ensures { λ r. ⌜ ((ns : List Node) (q : List ℕ) (rs : List Row) → Held ns len (now (tree .entry)) → (len ≤ 512 → Listed q n (now (wait .entry)))
+        → (len ≤ 512 → Rows rs count (now (items .entry)) (length ns)) → Left (appendLogicRuleResult ns q (map itemFrom rs)) r (now (tree .exit)) (now (wait .exit))) ⌝ }
+{
+    let mut here = Counts {
+        nodes: len,
+        waiting: n,
+    };
+    if 512 < len {
+        return here;
+    }
+    let mut k: usize = 0;
+    while k < count {
+        let target = ProofTreeNodeID(item_field(items, k, 0));
+        let s = with_middle_vertical_nodes(item_field(items, k, 1), item_field(items, k, 2));
+        here = append_subtree(tree, here.nodes, target, s, wait, here.waiting);
+        k += 1;
+    }
+    here
+}
