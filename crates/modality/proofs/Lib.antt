@@ -1,0 +1,4 @@
+pub mod Lists
+pub mod Before
+pub mod Fill
+pub mod Give

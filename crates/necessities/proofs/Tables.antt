@@ -1,0 +1,137 @@
+-- Laws of one row of a table of bits.
+use Prim.Native.Nat.{ℕ, zero, suc, _+_, _*_, _/_, _≤_, _<_}
+use mathlib.Core.Path.{_≡_, refl, sym, ap, subst, _∙_}
+use mathlib.Core.Bool.{Bool, true, false, not, _&&_, _||_}
+use mathlib.Core.List.{List, [], _∷_, _++_, append-assoc, append-nil}
+use mathlib.Core.Logic.{_≢_}
+use native.Mathlib.Numerals.{add-one}
+use native.Mathlib.Omega.{arith}
+use lib.ListN.{length, getD, take}
+use lib.Seq.{take-suc, take-all}
+use lib.Dec.{eqb, ltb}
+use borrow.Author.Tests.{eqb-true, eqb-false, eq-eqb, ne-eqb, lt-ltb, le-ltb, ltb-true, ltb-false}
+use Rattle.arrays.specs.Listed.{Listed}
+use Rattle.arrays.proofs.Listed.{listed-count}
+use Rattle.bits.specs.Bits.{bitAt, Bits}
+use Rattle.definition.specs.Lists.{Each, elem}
+use Rattle.necessities.specs.Stored.{InRow}
+use Rattle.necessities.specs.Change.{Kept, Added}
+
+pub each-get : {A : Type 0} (P : A → Type 0) (l : List A) (i : ℕ) (d : A) → Each P l → i < length l → P (getD l i d)
+each-get P [] i d h b = absurd (omega arith)
+each-get P (x ∷ l) zero d h b = h .0
+each-get P (x ∷ l) (suc i) d h b = each-get P l i d (h .1) (omega arith)
+
+elem-append : (y : ℕ) (l m : List ℕ) → elem y (l ++ m) ≡ (elem y l || elem y m)
+elem-append y [] m = refl
+elem-append y (x ∷ l) m = go (eqb y x) (elem-append y l m)
+  where
+    go : (b : Bool) → elem y (l ++ m) ≡ (elem y l || elem y m) → (b || elem y (l ++ m)) ≡ ((b || elem y l) || elem y m)
+    go true e = refl
+    go false e = e
+
+or-last : (a b : Bool) → (a || (b || false)) ≡ (b || a)
+or-last true true = refl
+or-last true false = refl
+or-last false true = refl
+or-last false false = refl
+
+-- a table has its own bits
+bits-of : (a : List ℕ) → length a ≡ 8192 → Bits (bitAt a) a
+bits-of a h = record { long = h; same = λ i b. refl }
+
+-- a row, by its numbers below 512 and those above
+in-row : (k : ℕ) (l a : List ℕ) → k < 512 → length a ≡ 8192 → ((y : ℕ) → y < 512 → bitAt a (k * 512 + y) ≡ elem y l) → ((y : ℕ) → 512 ≤ y → elem y l ≡ false) → InRow k l a
+in-row k l a r h low high = record { row = r; long = h; same = λ y. go y (ltb y 512) refl }
+  where
+    go : (y : ℕ) (t : Bool) → ltb y 512 ≡ t → (ltb y 512 && bitAt a (k * 512 + y)) ≡ elem y l
+    go y true e = rw e (low y (ltb-true y 512 e))
+    go y false e = rw e (sym (high y (ltb-false y 512 e)))
+
+module _ {k : ℕ} {l a : List ℕ} (r : InRow k l a) where
+  row-low : (y : ℕ) → y < 512 → bitAt a (k * 512 + y) ≡ elem y l
+  row-low y h = rw (lt-ltb y 512 h) at (r .same y)
+
+  row-high : (y : ℕ) → 512 ≤ y → elem y l ≡ false
+  row-high y h = sym (rw (le-ltb y 512 h) at (r .same y))
+
+  row-kept : (b : List ℕ) → length b ≡ 8192 → ((y : ℕ) → y < 512 → bitAt b (k * 512 + y) ≡ bitAt a (k * 512 + y)) → InRow k l b
+  row-kept b h e = in-row k l b (r .row) h (λ y q. e y q ∙ row-low y q) row-high
+
+-- ---- rows after changes
+pub kept-same : (k : ℕ) (a : List ℕ) → Kept k a a
+kept-same k a = record { long = λ h. h; others = λ j l e r. r }
+
+pub kept-then : {k : ℕ} {a b c : List ℕ} → Kept k a b → Kept k b c → Kept k a c
+kept-then p q = record { long = λ h. q .long (p .long h); others = λ j l e r. q .others j l e (p .others j l e r) }
+
+pub added-none : (k : ℕ) (a : List ℕ) → Added k [] a a
+added-none k a = record { kept = kept-same k a; here = λ old r. rw append-nil r }
+
+pub added-out : {k : ℕ} (l a : List ℕ) → 512 ≤ k → Added k l a a
+added-out {k} l a h = record { kept = kept-same k a; here = λ old r. absurd (omega (arith, r .row)) }
+
+pub added-then : {k : ℕ} {l m a b c : List ℕ} → Added k l a b → Added k m b c → Added k (l ++ m) a c
+added-then {k} {l} {m} p q =
+    record { kept = kept-then (p .kept) (q .kept); here = λ old r. rw (← append-assoc old l m) (q .here (old ++ l) (p .here old r)) }
+
+-- ---- one number more, which the callee's contract gives
+module _ (k x : ℕ) (a b : List ℕ) (inside : k < 512) (small : x < 512)
+    (insert : (p : ℕ → Bool) → Bits p a → Bits (λ j. eqb j (k * 512 + x) || p j) b) where
+  inserted : length a ≡ 8192 → (j y : ℕ) → j < 512 → y < 512 → bitAt b (j * 512 + y) ≡ (eqb (j * 512 + y) (k * 512 + x) || bitAt a (j * 512 + y))
+  inserted h j y r q = insert (bitAt a) (bits-of a h) .same (j * 512 + y) (omega arith)
+
+  insert-kept : Kept k a b
+  insert-kept =
+      record {
+        long = λ h. insert (bitAt a) (bits-of a h) .long;
+        others = λ j l e r. row-kept r b (insert (bitAt a) (bits-of a (r .long)) .long) (λ y q. other j y e (r .row) q (r .long));
+      }
+    where
+      other : (j y : ℕ) → j ≢ k → j < 512 → y < 512 → length a ≡ 8192 → bitAt b (j * 512 + y) ≡ bitAt a (j * 512 + y)
+      other j y e r q h = inserted h j y r q ∙ rw (ne-eqb (j * 512 + y) (k * 512 + x) (λ s. e (omega arith)))
+
+  insert-added : Added k (x ∷ []) a b
+  insert-added = record { kept = insert-kept; here = here }
+    where
+      same : (y : ℕ) (t : Bool) → eqb y x ≡ t → eqb (k * 512 + y) (k * 512 + x) ≡ eqb y x
+      same y true e = rw e (eq-eqb (k * 512 + y) (k * 512 + x) (ap (λ (z : ℕ). k * 512 + z) (eqb-true y x e)))
+      same y false e = rw e (ne-eqb (k * 512 + y) (k * 512 + x) (λ s. eqb-false y x e (omega arith)))
+
+      here : (old : List ℕ) → InRow k old a → InRow k (old ++ (x ∷ [])) b
+      here old r =
+          in-row k (old ++ (x ∷ [])) b inside (insert (bitAt a) (bits-of a (r .long)) .long)
+          (λ y q. inserted (r .long) k y inside q ∙ rw (same y (eqb y x) refl, row-low r y q) (sym (elem-append y old (x ∷ []) ∙ or-last (elem y old) (eqb y x))))
+          (λ y q. elem-append y old (x ∷ []) ∙ rw (row-high r y q, ne-eqb y x (λ s. omega arith)))
+
+-- the next of the listed numbers is put in, and none is left
+pub insert-next : (k : ℕ) {l a b c w : List ℕ} (i x m : ℕ) → k < 512 → i < m → Listed l m w → m ≤ 512 → Each (λ y. y < 512) l → x ≡ getD l i 0
+    → ((p : ℕ → Bool) → Bits p b → Bits (λ j. eqb j (k * 512 + x) || p j) c) → Added k (take i l) a b → Added k (take (i + 1) l) a c
+insert-next k {l} {a} {b} {c} i x m r h p n small e insert d =
+    let t : i < length l = omega (arith, listed-count p n) in
+    let q : x < 512 = rw e (each-get (λ y. y < 512) l i 0 small t) in
+    rw (add-one, take-suc l i 0 t, ← e) (added-then d (insert-added k x b c r q insert))
+
+pub insert-end : {k : ℕ} {l a b w : List ℕ} (i m : ℕ) → m ≤ i → Listed l m w → m ≤ 512 → Added k (take i l) a b → Added k l a b
+insert-end {k} {l} {a} {b} i m h p n d = subst (λ (v : List ℕ). Added k v a b) (take-all i l (omega (arith, listed-count p n))) d
+
+-- ---- a row emptied
+module _ (k : ℕ) (a b : List ℕ) (clear : (p : ℕ → Bool) → Bits p a → Bits (λ j. not (eqb (j / 512) k) && p j) b) where
+  cleared : length a ≡ 8192 → (j y : ℕ) → j < 512 → y < 512 → bitAt b (j * 512 + y) ≡ (not (eqb ((j * 512 + y) / 512) k) && bitAt a (j * 512 + y))
+  cleared h j y r q = clear (bitAt a) (bits-of a h) .same (j * 512 + y) (omega arith)
+
+  pub clear-kept : Kept k a b
+  clear-kept =
+      record {
+        long = λ h. clear (bitAt a) (bits-of a h) .long;
+        others = λ j l e r. row-kept r b (clear (bitAt a) (bits-of a (r .long)) .long) (λ y q. other j y e (r .row) q (r .long));
+      }
+    where
+      other : (j y : ℕ) → j ≢ k → j < 512 → y < 512 → length a ≡ 8192 → bitAt b (j * 512 + y) ≡ bitAt a (j * 512 + y)
+      other j y e r q h = cleared h j y r q ∙ rw (ne-eqb ((j * 512 + y) / 512) k (λ s. e (omega arith)))
+
+  pub clear-here : k < 512 → length a ≡ 8192 → InRow k [] b
+  clear-here r h =
+      in-row k [] b r (clear (bitAt a) (bits-of a h) .long)
+      (λ y q. cleared h k y r q ∙ rw (eq-eqb ((k * 512 + y) / 512) k (omega arith)))
+      (λ y q. refl)

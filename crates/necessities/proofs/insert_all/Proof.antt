@@ -1,0 +1,67 @@
+use Prim.Native.Nat.{ℕ, _≤_, _<_, _-_}
+use mathlib.Core.List.{List}
+use lib.ListN.{take}
+use borrow.Author.Needs.{needs}
+use Rattle.arrays.specs.Listed.{Listed}
+use Rattle.definition.specs.Lists.{Each}
+use Rattle.necessities.specs.Change.{Added}
+use Rattle.necessities.proofs.Tables.{added-none, added-out, insert-next, insert-end}
+use Rattle.necessities.proofs.insert_all.Statement.{statement}
+use Rattle.necessities.proofs.insert_all.Tie as tie
+
+abbrev Inv-loop : tie.InvT-loop
+Inv-loop words₀ k list m i₀ words i = (i ≤ m) × ((l : List ℕ) → Listed l m list → m ≤ 512 → Each (λ x. x < 512) l → Added k (take i l) words₀ words)
+
+abbrev μ-loop : tie.MeasureT-loop
+μ-loop words₀ k list m i₀ words i = m - i
+
+returns : tie.Need-returns Inv-loop μ-loop
+returns c = λ l p h e. added-out l _ (c .if1 .taken)
+
+loop-holds : tie.Need-loop-holds Inv-loop μ-loop
+loop-holds c = (search needs, λ l p h e. added-none _ _)
+
+nth-requires : tie.Need-nth-requires Inv-loop μ-loop
+nth-requires c κs = search needs
+
+cast-x : tie.Need-cast-x Inv-loop μ-loop
+cast-x c = search needs
+
+mul-insert : tie.Need-mul-insert Inv-loop μ-loop
+mul-insert c = search needs
+
+add-insert : tie.Need-add-insert Inv-loop μ-loop
+add-insert c = search needs
+
+insert-requires : tie.Need-insert-requires Inv-loop μ-loop
+insert-requires c κs = search needs
+
+add-i : tie.Need-add-i Inv-loop μ-loop
+add-i c = search needs
+
+loop-less : tie.Need-loop-less Inv-loop μ-loop
+loop-less c = search needs
+
+loop-again : tie.Need-loop-again Inv-loop μ-loop
+loop-again c = (search needs, λ l p h e. insert-next _ _ _ _ (c .before .before .before .before .before .if1 .left) (c .before .before .before .loop-test .taken) p h e (c .before .before .nth .ensures l _ p h (c .before .before .before .loop-test .taken)) (c .insert .ensures) (c .before .before .before .before .loop .inv .1 l p h e))
+
+returns-2 : tie.Need-returns-2 Inv-loop μ-loop
+returns-2 c = λ l p h e. insert-end _ _ (c .loop-test .left) p h (c .before .loop .inv .1 l p h e)
+
+pub insert-all-spec : {M : Type 1} → statement M
+insert-all-spec =
+    tie.close
+    (tie.spec
+    Inv-loop
+    μ-loop
+    returns
+    loop-holds
+    nth-requires
+    cast-x
+    mul-insert
+    add-insert
+    insert-requires
+    add-i
+    loop-less
+    loop-again
+    returns-2)

@@ -1,0 +1,146 @@
+// The stack of stored necessities: rows of numbers and bits, and the rows' order from the bottom to the top.
+use arrays::nth;
+use arrays::push;
+use bits::clear_row;
+use bits::insert;
+use formula::FormulaNumber;
+use graph::PossibleWorld;
+use tree::ProofTreeNodeID;
+ghost use mathlib.Core.Path.{_≡_};
+ghost use mathlib.Core.List.{List, _∷_, reverse};
+ghost use Prim.Native.Nat.{ℕ, _+_, _*_, _≤_, _<_};
+ghost use lib.ListN.{getD, set};
+ghost use Rattle.arrays.specs.Listed.{Listed};
+ghost use Rattle.definition.specs.Lists.{Each};
+ghost use Rattle.definition.specs.Modality.{Necessity};
+ghost use Rattle.necessities.specs.Stored.{Row};
+ghost use Rattle.necessities.specs.Change.{Added};
+ghost use Rattle.necessities.specs.Stack.{Stack, fresh, visits};
+
+// Number j of row k.
+fn number(rows: &[u16; 1536], k: usize, j: usize) -> u16
+    ensures { λ r. ⌜ (k < 512 → j < 3 → r ≡ getD (now (rows .entry)) (k * 3 + j) 0) ⌝ }
+{
+    if 512 <= k {
+        return 0;
+    }
+    if 3 <= j {
+        return 0;
+    }
+    rows[k * 3 + j]
+}
+
+pub fn formula_at(rows: &[u16; 1536], k: usize) -> FormulaNumber
+    ensures { λ r. ⌜ ((n : Necessity) (leafBits visited : List ℕ) → Row n k (now (rows .entry)) leafBits visited → r .0 ≡ n .formula) ⌝ }
+{
+    FormulaNumber(number(rows, k, 0))
+}
+
+pub fn world_at(rows: &[u16; 1536], k: usize) -> PossibleWorld
+    ensures { λ r. ⌜ ((n : Necessity) (leafBits visited : List ℕ) → Row n k (now (rows .entry)) leafBits visited → r .0 ≡ n .world) ⌝ }
+{
+    PossibleWorld(number(rows, k, 1))
+}
+
+pub fn spawner_at(rows: &[u16; 1536], k: usize) -> ProofTreeNodeID
+    ensures { λ r. ⌜ ((n : Necessity) (leafBits visited : List ℕ) → Row n k (now (rows .entry)) leafBits visited → r .0 ≡ n .spawner) ⌝ }
+{
+    ProofTreeNodeID(number(rows, k, 2))
+}
+
+// Stores the numbers of row k.
+fn put_row(
+    rows: &mut [u16; 1536],
+    k: usize,
+    formula: FormulaNumber,
+    world: PossibleWorld,
+    spawner: ProofTreeNodeID,
+)
+    ensures { λ r. ⌜ (k < 512 → now (rows .exit) ≡ set (set (set (now (rows .entry)) (k * 3) (formula .0)) (k * 3 + 1) (world .0)) (k * 3 + 2) (spawner .0)) ⌝ }
+{
+    if 512 <= k {
+        return;
+    }
+    rows[k * 3] = formula.0;
+    rows[k * 3 + 1] = world.0;
+    rows[k * 3 + 2] = spawner.0;
+}
+
+// Puts the listed numbers, each below 512, into row k.
+pub fn insert_all(words: &mut [u32; 8192], k: usize, list: &[u16; 512], m: usize)
+    ensures { λ r. ⌜ ((l : List ℕ) → Listed l m (now (list .entry)) → m ≤ 512 → Each (λ x. x < 512) l → Added k l (now (words .entry)) (now (words .exit))) ⌝ }
+{
+    if 512 <= k {
+        return;
+    }
+    for i in 0..m {
+        let x = nth(list, i) as usize;
+        insert(words, k * 512 + x);
+    }
+}
+
+// The row of the necessity that stands i below the top.
+pub fn row_at(order: &[u16; 512], count: usize, i: usize) -> usize
+    ensures { λ r. ⌜ ((ns : List Necessity) (rows leafBits visited : List ℕ) (s : Stack ns count (now (order .entry)) rows leafBits visited) → i < count → r ≡ getD (s .ks) i 0) ⌝ }
+{
+    if count <= i {
+        return 0;
+    }
+    nth(order, count - 1 - i) as usize
+}
+
+// Pushes a necessity with the listed leaves, which has visited no world; 513 where there is no room.
+pub fn store(
+    order: &mut [u16; 512],
+    count: usize,
+    rows: &mut [u16; 1536],
+    leaf_bits: &mut [u32; 8192],
+    visited: &mut [u32; 8192],
+    formula: FormulaNumber,
+    world: PossibleWorld,
+    spawner: ProofTreeNodeID,
+    leaves: &[u16; 512],
+    m: usize,
+) -> usize
+    ensures { λ r. ⌜ ((ns : List Necessity) (l : List ℕ) → Stack ns count (now (order .entry)) (now (rows .entry)) (now («leaf_bits» .entry)) (now (visited .entry)) → count < 512
+        → Listed l m (now (leaves .entry)) → m ≤ 512 → Each (λ x. x < 512) l
+        → Stack (fresh (formula .0) (world .0) (spawner .0) l ∷ ns) r (now (order .exit)) (now (rows .exit)) (now («leaf_bits» .exit)) (now (visited .exit))) ⌝ }
+{
+    if 512 <= count {
+        return 513;
+    }
+    put_row(rows, count, formula, world, spawner);
+    clear_row(leaf_bits, count);
+    insert_all(leaf_bits, count, leaves, m);
+    clear_row(visited, count);
+    push(order, count, count as u16)
+}
+
+// The necessity of row k, which stands i below the top, has visited the listed worlds too.
+pub fn visit(visited: &mut [u32; 8192], k: usize, list: &[u16; 512], m: usize)
+    ensures { λ r. ⌜ ((ns : List Necessity) (count i : ℕ) (order rows leafBits l : List ℕ) (none : Necessity) (s : Stack ns count order rows leafBits (now (visited .entry))) → i < count → k ≡ getD (s .ks) i 0
+        → Listed l m (now (list .entry)) → m ≤ 512 → Each (λ x. x < 512) l
+        → Stack (set ns i (visits (getD ns i none) l)) count order rows leafBits (now (visited .exit))) ⌝ }
+{
+    insert_all(visited, k, list, m);
+}
+
+// The first n entries in the opposite order.
+pub fn reverse(a: &mut [u16; 512], n: usize)
+    ensures { λ r. ⌜ ((l : List ℕ) → Listed l n (now (a .entry)) → Listed (reverse l) n (now (a .exit))) ⌝ }
+{
+    if 512 < n {
+        return;
+    }
+    let old = *a;
+    for i in 0..n {
+        a[i] = old[n - 1 - i];
+    }
+}
+
+// The stack turned round.
+pub fn turn(order: &mut [u16; 512], count: usize)
+    ensures { λ r. ⌜ ((ns : List Necessity) (rows leafBits visited : List ℕ) → Stack ns count (now (order .entry)) rows leafBits visited → Stack (reverse ns) count (now (order .exit)) rows leafBits visited) ⌝ }
+{
+    reverse(order, count);
+}
