@@ -1,16 +1,16 @@
 -- Marks change the contrarian alone, so that a path and its pair are the same before and after them.
 use Prim.Native.Nat.{ℕ, zero, suc, _+_, _<_, _≤_}
-use mathlib.Core.Path.{_≡_, refl, sym, ap, _∙_, subst}
-use mathlib.Core.Bool.{Bool, true, false, cond, _&&_, and-true, and-assoc}
+use mathlib.Core.Path.{_≡_, refl, sym, ap, _∙_}
+use mathlib.Core.Bool.{Bool, true, cond, _&&_, and-true, and-assoc}
 use mathlib.Core.List.{List, [], _∷_, _++_, map, reverse}
-use mathlib.Core.Option.{Option, none, some, Option·map}
+use mathlib.Core.Option.{Option, Option·map}
 use native.Mathlib.Omega.{arith}
 use native.Mathlib.Numerals.{add-one}
 use lib.ListN.{length, getD, take}
 use lib.Seq.{take-suc, take-all}
 use Rattle.definition.specs.Lists.{all, find, orElse}
 use Rattle.definition.specs.Records.{Rec, isNobody}
-use Rattle.definition.specs.Tree.{Node, nodeAt, upward, path, leaves}
+use Rattle.definition.specs.Tree.{Node, nodeAt, upward, path}
 use Rattle.definition.specs.Contradiction.{Pair, pair, areNodesContradictory, getContradictoryNodeIds, isPair, mark, markAll, pairs}
 use Rattle.definition.proofs.Nodes.{mark-keeps, length-marks}
 use Rattle.tree.specs.Lay.{lay, Held}
@@ -102,9 +102,9 @@ module _ {rs : List Rec} {ns : List Node} {l : List ℕ} {len : ℕ} {a : List �
       let ps = pairs rs ns (take k l) in
       let ok = held-ok (m .nodes) few in
       let eo : o ≡ getContradictoryNodeIds rs ns (path ns (getD l k 0)) =
-            f (markAll ns ps) (ok .0) few (ok .1) ∙ pair-marked rs ps ns x ∙ ap (λ (v : ℕ). getContradictoryNodeIds rs ns (path ns v)) e in
+      f (markAll ns ps) (ok .0) few (ok .1) ∙ pair-marked rs ps ns x ∙ ap (λ (v : ℕ). getContradictoryNodeIds rs ns (path ns v)) e in
       let es : pairs rs ns (take (k + 1) l) ≡ ps ++ (o ∷ []) =
-            pairs-snoc rs ns l k h ∙ ap (λ (p : Option Pair). ps ++ (p ∷ [])) (sym eo) in
+      pairs-snoc rs ns l k h ∙ ap (λ (p : Option Pair). ps ++ (p ∷ [])) (sym eo) in
       record {
         nodes = held-as (markAll ns (pairs rs ns (take (k + 1) l))) (sym (ap (markAll ns) es ∙ marks-snoc ps o ns)) (g (markAll ns ps) (m .nodes));
         each = z ∙ ap (λ (v : Bool). v && s) (m .each) ∙ ap (λ (v : Bool). all isPair ps && v) q ∙ sym (ap (all isPair) es ∙ all-snoc isPair ps o);

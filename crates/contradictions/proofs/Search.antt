@@ -1,7 +1,7 @@
 -- The path of a leaf, and its search for a pair.
 use Prim.Native.Nat.{ℕ, zero, suc, _+_, _-_, _<_, _≤_}
 use mathlib.Core.Path.{_≡_, refl, sym, ap, _∙_}
-use mathlib.Core.Bool.{Bool, true, false, cond, _&&_}
+use mathlib.Core.Bool.{Bool, true, false, cond}
 use mathlib.Core.List.{List, [], _∷_, _++_, append-assoc, append-nil, reverse, reverse-append}
 use mathlib.Core.Option.{Option, none, some, Option·map}
 use native.Mathlib.Omega.{arith}
@@ -75,9 +75,9 @@ module _ {t : List Node} {whole : List ℕ} {len : ℕ} {a : List ℕ} {cur n k 
         done = c .done ++ (cur ∷ []);
         has = f (c .done) (c .has);
         rest =
-          append-assoc (c .done) (cur ∷ []) (upward (len - (k + 1)) t up)
-          ∙ ap (λ (l : List ℕ). c .done ++ l) (sym (up-node t (len - k) (len - (k + 1)) cur up z e node u))
-          ∙ c .rest;
+            append-assoc (c .done) (cur ∷ []) (upward (len - (k + 1)) t up)
+            ∙ ap (λ (l : List ℕ). c .done ++ l) (sym (up-node t (len - k) (len - (k + 1)) cur up z e node u))
+            ∙ c .rest;
       }
 
 -- ---- two nodes

@@ -62,7 +62,12 @@ pub fn are_nodes_contradictory(
         → r ≡ areNodesContradictory rs ns (x .0) (y .0)) ⌝ }
 {
     if world_of(tree, x).is(world_of(tree, y)) {
-        return are_formulas_contradictory(formulas, count, formula_of(tree, x), formula_of(tree, y));
+        return are_formulas_contradictory(
+            formulas,
+            count,
+            formula_of(tree, x),
+            formula_of(tree, y),
+        );
     }
     false
 }
@@ -100,7 +105,10 @@ pub fn is_pair(c: Contradiction) -> bool
 {
     match c {
         Contradiction::None => false,
-        Contradiction::Between { later: _, earlier: _ } => true,
+        Contradiction::Between {
+            later: _,
+            earlier: _,
+        } => true,
     }
 }
 
@@ -185,7 +193,7 @@ fn mark_paths(
     proved
 }
 
-// Marks the pair of each path; whether every path has one. Nothing is done where there are more than 512 nodes or leaves.
+// Marks the pair of each path; whether every path has one. Nothing is marked where there are more than 512 nodes.
 pub fn check_for_contradictions(
     formulas: &[u16; 5120],
     count: usize,

@@ -15,7 +15,7 @@ use Rattle.definition.specs.Tree.{Node, newNode, nodeAt, path}
 use Rattle.definition.specs.Modality.{Necessity, Fork, forkedOn, occurs}
 use Rattle.definition.proofs.Nodes.{node-append}
 use Rattle.tree.specs.Lay.{lay}
-use Rattle.modality.specs.Stored.{InRow}
+use Rattle.necessities.specs.Stored.{InRow}
 use Rattle.modality.specs.Stands.{Stands}
 use Rattle.modality.specs.Forking.{forkOf}
 use Rattle.modality.specs.declared.Forking.{Forking}
@@ -56,6 +56,7 @@ forked-by f xs v = go (f .on)
   where
     k : Fork
     k = record { node = f .node .0; world = f .world .0 }
+
     go : (b : Bool) → (b && (eqb v (f .world .0) && elem (f .node .0) xs)) ≡ forkedOn (cond b (some k) none) xs v
     go true = refl
     go false = refl

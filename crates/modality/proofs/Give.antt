@@ -69,12 +69,12 @@ module _ (t more : List Node) (f : ℕ → Node) (p : ℕ → Bool) (ws : List �
 
   stands-of : {base n : ℕ} {a : List ℕ} (made : List Node) → length t ≡ base → n ≤ 512 → length ((t ++ more) ++ made) ≡ n → a ≡ lay ((t ++ more) ++ made) → Stands t base a
   stands-of made c h e q =
-      record
-        { more = more ++ made
-        ; count = c
-        ; room = subst (λ (v : List Node). length v ≤ 512) (append-assoc t more made) (omega arith)
-        ; laid = q ∙ ap lay (append-assoc t more made)
-        }
+      record {
+        more = more ++ made;
+        count = c;
+        room = subst (λ (v : List Node). length v ≤ 512) (append-assoc t more made) (omega arith);
+        laid = q ∙ ap lay (append-assoc t more made);
+      }
 
   pub give-start : {n : ℕ} {a : List ℕ} → Held (t ++ more) n a → Held (given 0) n a
   give-start q = held-as (given 0) (sym (append-nil (t ++ more))) q

@@ -4,5 +4,5 @@ use Rattle.definition.specs.Modality.{Fork}
 use Rattle.modality.specs.declared.Forking.{Forking}
 
 -- the fork in progress
-unfoldable pub forkOf : Forking → Option Fork
+abbrev pub forkOf : Forking → Option Fork
 forkOf f = cond (f .on) (some (record { node = f .node .0; world = f .world .0 })) none

@@ -1,3 +1,2 @@
-pub mod Stored
 pub mod Stands
 pub mod Forking

@@ -20,7 +20,7 @@ ghost use Rattle.definition.specs.Tree.{Node, nodeAt, newNode, path, leaves};
 ghost use Rattle.definition.specs.Modality.{Necessity, Fork, runsThrough, forkedOn, occurs, unvisited, leavesOf, isReapplied};
 ghost use Rattle.graph.specs.Drawn.{Drawn};
 ghost use Rattle.tree.specs.Lay.{Held};
-ghost use Rattle.modality.specs.Stored.{InRow, Row};
+ghost use Rattle.necessities.specs.Stored.{InRow, Row};
 ghost use Rattle.modality.specs.Stands.{Stands};
 ghost use Rattle.modality.specs.Forking.{forkOf};
 
@@ -65,7 +65,13 @@ fn world_before(tree: &[u16; 4608], base: usize, x: ProofTreeNodeID) -> Possible
 }
 
 // The path runs through a leaf stored in row k.
-pub fn path_runs_through(tree: &[u16; 4608], base: usize, leafs: &[u32; 8192], k: usize, leaf: ProofTreeNodeID) -> bool
+pub fn path_runs_through(
+    tree: &[u16; 4608],
+    base: usize,
+    leafs: &[u32; 8192],
+    k: usize,
+    leaf: ProofTreeNodeID,
+) -> bool
     ensures { λ r. ⌜ ((t : List Node) (n : Necessity) → Stands t base (now (tree .entry)) → InRow k (n .leaves) (now (leafs .entry)) → r ≡ runsThrough n (path t (leaf .0))) ⌝ }
 {
     let mut cur = leaf;
@@ -84,7 +90,12 @@ pub fn path_runs_through(tree: &[u16; 4608], base: usize, leafs: &[u32; 8192], k
 }
 
 // A node of the path is in world v.
-pub fn world_occurs(tree: &[u16; 4608], base: usize, leaf: ProofTreeNodeID, v: PossibleWorld) -> bool
+pub fn world_occurs(
+    tree: &[u16; 4608],
+    base: usize,
+    leaf: ProofTreeNodeID,
+    v: PossibleWorld,
+) -> bool
     ensures { λ r. ⌜ ((t : List Node) → Stands t base (now (tree .entry)) → r ≡ any (λ x. eqb (nodeAt t x .world) (v .0)) (path t (leaf .0))) ⌝ }
 {
     let mut cur = leaf;
@@ -103,7 +114,12 @@ pub fn world_occurs(tree: &[u16; 4608], base: usize, leaf: ProofTreeNodeID, v: P
 }
 
 // The path goes through node x.
-pub fn path_goes_through(tree: &[u16; 4608], base: usize, x: ProofTreeNodeID, leaf: ProofTreeNodeID) -> bool
+pub fn path_goes_through(
+    tree: &[u16; 4608],
+    base: usize,
+    x: ProofTreeNodeID,
+    leaf: ProofTreeNodeID,
+) -> bool
     ensures { λ r. ⌜ ((t : List Node) → Stands t base (now (tree .entry)) → r ≡ elem (x .0) (path t (leaf .0))) ⌝ }
 {
     let mut cur = leaf;
@@ -122,7 +138,13 @@ pub fn path_goes_through(tree: &[u16; 4608], base: usize, x: ProofTreeNodeID, le
 }
 
 // v is the new world of a fork whose node is on the path.
-fn forked_on(tree: &[u16; 4608], base: usize, forking: Forking, leaf: ProofTreeNodeID, v: PossibleWorld) -> bool
+fn forked_on(
+    tree: &[u16; 4608],
+    base: usize,
+    forking: Forking,
+    leaf: ProofTreeNodeID,
+    v: PossibleWorld,
+) -> bool
     ensures { λ r. ⌜ ((t : List Node) → Stands t base (now (tree .entry)) → r ≡ forkedOn (forkOf forking) (path t (leaf .0)) (v .0)) ⌝ }
 {
     let node = forking.node;
@@ -131,7 +153,13 @@ fn forked_on(tree: &[u16; 4608], base: usize, forking: Forking, leaf: ProofTreeN
 }
 
 // World v occurs on the path; the new world of a fork does on the paths through the forking node.
-pub fn occurs(tree: &[u16; 4608], base: usize, forking: Forking, leaf: ProofTreeNodeID, v: PossibleWorld) -> bool
+pub fn occurs(
+    tree: &[u16; 4608],
+    base: usize,
+    forking: Forking,
+    leaf: ProofTreeNodeID,
+    v: PossibleWorld,
+) -> bool
     ensures { λ r. ⌜ ((t : List Node) → Stands t base (now (tree .entry)) → r ≡ occurs t (forkOf forking) (path t (leaf .0)) (v .0)) ⌝ }
 {
     world_occurs(tree, base, leaf, v) || forked_on(tree, base, forking, leaf, v)
@@ -148,7 +176,16 @@ fn push_if(out: &mut [u16; 512], n: usize, v: u16, keep: bool) -> usize
 }
 
 // Of all leaves, those whose paths run through a leaf stored in row k.
-pub fn leaves_of(tree: &[u16; 4608], base: usize, leafs: &[u32; 8192], k: usize, all: &[u16; 512], m: usize, out: &mut [u16; 512], c: usize) -> usize
+pub fn leaves_of(
+    tree: &[u16; 4608],
+    base: usize,
+    leafs: &[u32; 8192],
+    k: usize,
+    all: &[u16; 512],
+    m: usize,
+    out: &mut [u16; 512],
+    c: usize,
+) -> usize
     ensures { λ r. ⌜ ((t : List Node) (n : Necessity) (l : List ℕ) → Stands t base (now (tree .entry)) → InRow k (n .leaves) (now (leafs .entry)) → Listed (leaves t) m (now (all .entry)) → m ≤ 512
         → Listed l c (now (out .entry)) → Listed (l ++ leavesOf t n) r (now (out .exit))) ⌝ }
 {
@@ -163,8 +200,38 @@ pub fn leaves_of(tree: &[u16; 4608], base: usize, leafs: &[u32; 8192], k: usize,
     n
 }
 
+// Of all leaves, those whose paths go through node x.
+pub fn leaves_through(
+    tree: &[u16; 4608],
+    base: usize,
+    x: ProofTreeNodeID,
+    all: &[u16; 512],
+    m: usize,
+    out: &mut [u16; 512],
+    c: usize,
+) -> usize
+    ensures { λ r. ⌜ ((t : List Node) (l : List ℕ) → Stands t base (now (tree .entry)) → Listed (leaves t) m (now (all .entry)) → m ≤ 512
+        → Listed l c (now (out .entry)) → Listed (l ++ filter (λ leaf. elem (x .0) (path t leaf)) (leaves t)) r (now (out .exit))) ⌝ }
+{
+    let mut n = c;
+    let mut j: usize = 0;
+    while j < m {
+        let leaf = nth(all, j);
+        let goes = path_goes_through(tree, base, x, ProofTreeNodeID(leaf));
+        n = push_if(out, n, leaf, goes);
+        j += 1;
+    }
+    n
+}
+
 // One of these paths goes through the forking node.
-pub fn is_reapplied(tree: &[u16; 4608], base: usize, node: ProofTreeNodeID, on: &[u16; 512], m: usize) -> bool
+pub fn is_reapplied(
+    tree: &[u16; 4608],
+    base: usize,
+    node: ProofTreeNodeID,
+    on: &[u16; 512],
+    m: usize,
+) -> bool
     ensures { λ r. ⌜ ((t : List Node) (k : Fork) (n : Necessity) → k .node ≡ node .0 → Stands t base (now (tree .entry)) → Listed (leavesOf t n) m (now (on .entry)) → m ≤ 512 → r ≡ isReapplied t k n) ⌝ }
 {
     let mut j: usize = 0;
@@ -179,14 +246,28 @@ pub fn is_reapplied(tree: &[u16; 4608], base: usize, node: ProofTreeNodeID, on: 
 }
 
 // u reaches v, and v is not visited in row k.
-fn is_unvisited(edges: &[u8; 625], visited: &[u32; 8192], k: usize, u: PossibleWorld, v: PossibleWorld) -> bool
+fn is_unvisited(
+    edges: &[u8; 625],
+    visited: &[u32; 8192],
+    k: usize,
+    u: PossibleWorld,
+    v: PossibleWorld,
+) -> bool
     ensures { λ r. ⌜ ((g : Graph) (w : ℕ) (l : List ℕ) → Drawn g w (now (edges .entry)) → InRow k l (now (visited .entry)) → r ≡ (edge g (u .0) (v .0) && not (elem (v .0) l))) ⌝ }
 {
     graph::contains(edges, u, v) && !row_contains(visited, k, v.0)
 }
 
 // The worlds that u reaches and that are not visited in row k, rising.
-pub fn unvisited(edges: &[u8; 625], worlds: usize, visited: &[u32; 8192], k: usize, u: PossibleWorld, out: &mut [u16; 512], c: usize) -> usize
+pub fn unvisited(
+    edges: &[u8; 625],
+    worlds: usize,
+    visited: &[u32; 8192],
+    k: usize,
+    u: PossibleWorld,
+    out: &mut [u16; 512],
+    c: usize,
+) -> usize
     ensures { λ r. ⌜ ((g : Graph) (n : Necessity) (l : List ℕ) → n .world ≡ u .0 → Drawn g worlds (now (edges .entry)) → InRow k (n .visited) (now (visited .entry)) → Listed l c (now (out .entry)) → Listed (l ++ unvisited g n) r (now (out .exit))) ⌝ }
 {
     if 25 < worlds {
@@ -204,7 +285,14 @@ pub fn unvisited(edges: &[u8; 625], worlds: usize, visited: &[u32; 8192], k: usi
 }
 
 // One node more, if it is to be made.
-fn new_node_if(tree: &mut [u16; 4608], len: usize, spawner: ProofTreeNodeID, formula: FormulaNumber, world: PossibleWorld, keep: bool) -> usize
+fn new_node_if(
+    tree: &mut [u16; 4608],
+    len: usize,
+    spawner: ProofTreeNodeID,
+    formula: FormulaNumber,
+    world: PossibleWorld,
+    keep: bool,
+) -> usize
     ensures { λ r. ⌜ ((ns : List Node) → Held ns len (now (tree .entry)) → Held (ns ++ cond keep (newNode (spawner .0) (formula .0) (world .0) ∷ []) []) r (now (tree .exit))) ⌝ }
 {
     if keep {
@@ -214,7 +302,17 @@ fn new_node_if(tree: &mut [u16; 4608], len: usize, spawner: ProofTreeNodeID, for
 }
 
 // On one path: a node for each of the worlds that occurs there.
-pub fn give_on_leaf(tree: &mut [u16; 4608], base: usize, len: usize, spawner: ProofTreeNodeID, formula: FormulaNumber, forking: Forking, leaf: ProofTreeNodeID, worlds: &[u16; 512], m: usize) -> usize
+pub fn give_on_leaf(
+    tree: &mut [u16; 4608],
+    base: usize,
+    len: usize,
+    spawner: ProofTreeNodeID,
+    formula: FormulaNumber,
+    forking: Forking,
+    leaf: ProofTreeNodeID,
+    worlds: &[u16; 512],
+    m: usize,
+) -> usize
     ensures { λ r. ⌜ ((t more : List Node) (ws : List ℕ) → length t ≡ base → Listed ws m (now (worlds .entry)) → m ≤ 512 → Held (t ++ more) len (now (tree .entry))
         → Held ((t ++ more) ++ map (newNode (spawner .0) (formula .0)) (filter (occurs t (forkOf forking) (path t (leaf .0))) ws)) r (now (tree .exit))) ⌝ }
 {

@@ -47,11 +47,14 @@ loop-less : tie.Need-loop-less Inv-loop μ-loop
 loop-less c = search needs
 
 loop-again : tie.Need-loop-again Inv-loop μ-loop
-loop-again c = (search needs, λ rs ns l p b h q s m.
-    let a = c .before .before .before .before .before .args in
-    sym (left-miss (areNodesContradictory rs ns (a .x .0)) l (a .from) _ (omega (arith, listed-count s m, c .before .before .before .before .loop .inv .0)) (c .before .before .before .loop-test .taken)
-    (c .before .before .nth .ensures l _ s m (omega (arith, c .before .before .before .before .loop .inv .0, c .before .before .before .loop-test .taken))) (c .before .are-nodes-contradictory .ensures rs ns p b h q) (c .if1 .left))
-    ∙ c .before .before .before .before .loop .inv .1 rs ns l p b h q s m)
+loop-again c = (
+  search needs,
+  λ rs ns l p b h q s m.
+      let a = c .before .before .before .before .before .args in
+      sym (left-miss (areNodesContradictory rs ns (a .x .0)) l (a .from) _ (omega (arith, listed-count s m, c .before .before .before .before .loop .inv .0)) (c .before .before .before .loop-test .taken)
+      (c .before .before .nth .ensures l _ s m (omega (arith, c .before .before .before .before .loop .inv .0, c .before .before .before .loop-test .taken))) (c .before .are-nodes-contradictory .ensures rs ns p b h q) (c .if1 .left))
+      ∙ c .before .before .before .before .loop .inv .1 rs ns l p b h q s m,
+)
 
 returns-2 : tie.Need-returns-2 Inv-loop μ-loop
 returns-2 c = λ rs ns l p b h q s m.

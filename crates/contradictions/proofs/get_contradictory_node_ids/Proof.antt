@@ -46,10 +46,13 @@ loop-less : tie.Need-loop-less Inv-loop μ-loop
 loop-less c = search needs
 
 loop-again : tie.Need-loop-again Inv-loop μ-loop
-loop-again c = (search needs, λ rs ns l p b h q s m.
-    sym (ids-miss rs ns l _ _ _ (omega (arith, listed-count s m, c .before .before .before .before .loop-test .taken)) (c .before .before .before .nth .ensures l _ s m (c .before .before .before .before .loop-test .taken))
-    (c .before .before .find-earlier .ensures rs ns l p b h q s m) (c .before .is-pair .ensures) (c .if1 .left))
-    ∙ c .before .before .before .before .before .loop .inv .1 rs ns l p b h q s m)
+loop-again c = (
+  search needs,
+  λ rs ns l p b h q s m.
+      sym (ids-miss rs ns l _ _ _ (omega (arith, listed-count s m, c .before .before .before .before .loop-test .taken)) (c .before .before .before .nth .ensures l _ s m (c .before .before .before .before .loop-test .taken))
+      (c .before .before .find-earlier .ensures rs ns l p b h q s m) (c .before .is-pair .ensures) (c .if1 .left))
+      ∙ c .before .before .before .before .before .loop .inv .1 rs ns l p b h q s m,
+)
 
 returns-2 : tie.Need-returns-2 Inv-loop μ-loop
 returns-2 c = λ rs ns l p b h q s m. sym (ids-end rs ns l (c .before .loop .i) (omega (arith, listed-count s m, c .loop-test .left))) ∙ c .before .loop .inv .1 rs ns l p b h q s m

@@ -43,10 +43,13 @@ loop-less : tie.Need-loop-less Inv-loop μ-loop
 loop-less c = search needs
 
 loop-again : tie.Need-loop-again Inv-loop μ-loop
-loop-again c = (search needs, λ rs ns l p b a h s m.
-    marking-next (c .before .before .before .before .before .before .before .before .loop .inv .1 rs ns l p b a h s m) _ _ (omega (arith, listed-count s m, c .before .before .before .before .before .before .before .loop-test .taken)) h
-    (c .before .before .before .before .before .before .nth .ensures l _ s m (c .before .before .before .before .before .before .before .loop-test .taken)) (λ ms. c .before .before .before .before .contradiction-of .ensures rs ms p b) (c .before .before .mark-pair .ensures)
-    (c .before .is-pair .ensures) (c .and .ensures))
+loop-again c = (
+  search needs,
+  λ rs ns l p b a h s m.
+      marking-next (c .before .before .before .before .before .before .before .before .loop .inv .1 rs ns l p b a h s m) _ _ (omega (arith, listed-count s m, c .before .before .before .before .before .before .before .loop-test .taken)) h
+      (c .before .before .before .before .before .before .nth .ensures l _ s m (c .before .before .before .before .before .before .before .loop-test .taken)) (λ ms. c .before .before .before .before .contradiction-of .ensures rs ms p b) (c .before .before .mark-pair .ensures)
+      (c .before .is-pair .ensures) (c .and .ensures),
+)
 
 returns : tie.Need-returns Inv-loop μ-loop
 returns c = λ rs ns l p b a h s m. marking-end (c .before .loop .inv .1 rs ns l p b a h s m) (omega (arith, listed-count s m, c .loop-test .left))

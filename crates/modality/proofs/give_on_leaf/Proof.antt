@@ -39,10 +39,10 @@ loop-less : tie.Need-loop-less Inv-loop μ-loop
 loop-less c = search needs
 
 loop-again : tie.Need-loop-again Inv-loop μ-loop
-loop-again c = (search needs, λ t more ws e l h p. let a = c  .before .before .before .before .before .before .before .args in give-next t more (newNode (a .spawner .0) (a .formula .0)) (occurs t (forkOf (a .forking)) (path t (a .leaf .0))) ws (c  .before .before .before .before .before .before .loop .j) _ e (omega (arith, listed-count l h, c  .before .before .before .before .before .loop-test .taken)) (c  .before .before .before .before .nth .ensures ws _ l h (c  .before .before .before .before .before .loop-test .taken)) (c  .before .before .occurs .ensures t) (c  .before .before .before .before .before .before .loop .inv .1 t more ws e l h p) (c .new-node-if .ensures))
+loop-again c = (search needs, λ t more ws e l h p. let a = c .before .before .before .before .before .before .before .args in give-next t more (newNode (a .spawner .0) (a .formula .0)) (occurs t (forkOf (a .forking)) (path t (a .leaf .0))) ws (c .before .before .before .before .before .before .loop .j) _ e (omega (arith, listed-count l h, c .before .before .before .before .before .loop-test .taken)) (c .before .before .before .before .nth .ensures ws _ l h (c .before .before .before .before .before .loop-test .taken)) (c .before .before .occurs .ensures t) (c .before .before .before .before .before .before .loop .inv .1 t more ws e l h p) (c .new-node-if .ensures))
 
 returns : tie.Need-returns Inv-loop μ-loop
-returns c = λ t more ws e l h p. let a = c  .before .before .args in give-end t more (newNode (a .spawner .0) (a .formula .0)) (occurs t (forkOf (a .forking)) (path t (a .leaf .0))) ws (c  .before .loop .j) (omega (arith, listed-count l h, c .loop-test .left)) (c  .before .loop .inv .1 t more ws e l h p)
+returns c = λ t more ws e l h p. let a = c .before .before .args in give-end t more (newNode (a .spawner .0) (a .formula .0)) (occurs t (forkOf (a .forking)) (path t (a .leaf .0))) ws (c .before .loop .j) (omega (arith, listed-count l h, c .loop-test .left)) (c .before .loop .inv .1 t more ws e l h p)
 
 pub give-on-leaf-spec : {M : Type 1} → statement M
 give-on-leaf-spec =

@@ -31,7 +31,7 @@ path-goes-through-requires : tie.Need-path-goes-through-requires Inv-loop μ-loo
 path-goes-through-requires c κs = search needs
 
 returns : tie.Need-returns Inv-loop μ-loop
-returns c = λ t k n e d l h. sym (seek-hit (at t k) (leavesOf t n) _ (omega (arith, listed-count l h, c  .before .before .before .loop-test .taken)) (c  .before .before .nth .ensures (leavesOf t n) _ l h (c  .before .before .before .loop-test .taken)) (c  .before .path-goes-through .ensures t d ∙ ap (λ (x : ℕ). elem x (path t (c  .before .before .nth .result))) (sym e)) (c .if1 .taken)) ∙ c  .before .before .before .before .loop .inv .1 t k n e d l h
+returns c = λ t k n e d l h. sym (seek-hit (at t k) (leavesOf t n) _ (omega (arith, listed-count l h, c .before .before .before .loop-test .taken)) (c .before .before .nth .ensures (leavesOf t n) _ l h (c .before .before .before .loop-test .taken)) (c .before .path-goes-through .ensures t d ∙ ap (λ (x : ℕ). elem x (path t (c .before .before .nth .result))) (sym e)) (c .if1 .taken)) ∙ c .before .before .before .before .loop .inv .1 t k n e d l h
 
 add-j : tie.Need-add-j Inv-loop μ-loop
 add-j c = search needs
@@ -40,10 +40,10 @@ loop-less : tie.Need-loop-less Inv-loop μ-loop
 loop-less c = search needs
 
 loop-again : tie.Need-loop-again Inv-loop μ-loop
-loop-again c = (search needs, λ t k n e d l h. sym (seek-miss (at t k) (leavesOf t n) _ (omega (arith, listed-count l h, c  .before .before .before .loop-test .taken)) (c  .before .before .nth .ensures (leavesOf t n) _ l h (c  .before .before .before .loop-test .taken)) (c  .before .path-goes-through .ensures t d ∙ ap (λ (x : ℕ). elem x (path t (c  .before .before .nth .result))) (sym e)) (c .if1 .left)) ∙ c  .before .before .before .before .loop .inv .1 t k n e d l h)
+loop-again c = (search needs, λ t k n e d l h. sym (seek-miss (at t k) (leavesOf t n) _ (omega (arith, listed-count l h, c .before .before .before .loop-test .taken)) (c .before .before .nth .ensures (leavesOf t n) _ l h (c .before .before .before .loop-test .taken)) (c .before .path-goes-through .ensures t d ∙ ap (λ (x : ℕ). elem x (path t (c .before .before .nth .result))) (sym e)) (c .if1 .left)) ∙ c .before .before .before .before .loop .inv .1 t k n e d l h)
 
 returns-2 : tie.Need-returns-2 Inv-loop μ-loop
-returns-2 c = λ t k n e d l h. sym (seek-end (at t k) (leavesOf t n) (c .before .loop .j) (omega (arith, listed-count l h, c .loop-test .left))) ∙ c  .before .loop .inv .1 t k n e d l h
+returns-2 c = λ t k n e d l h. sym (seek-end (at t k) (leavesOf t n) (c .before .loop .j) (omega (arith, listed-count l h, c .loop-test .left))) ∙ c .before .loop .inv .1 t k n e d l h
 
 pub is-reapplied-spec : {M : Type 1} → statement M
 is-reapplied-spec =

@@ -12,10 +12,10 @@ row-contains-requires : tie.Need-row-contains-requires
 row-contains-requires c κs = search needs
 
 returns : tie.Need-returns
-returns c = λ g w l d r. and-second (c  .before .before .contains .ensures g w d) (c  .before .if1 .taken) (ap not (c .row-contains .ensures l r))
+returns c = λ g w l d r. and-second (c .before .before .contains .ensures g w d) (c .before .if1 .taken) (ap not (c .row-contains .ensures l r))
 
 returns-2 : tie.Need-returns-2
-returns-2 c = λ g w l d r. and-first (c  .before .contains .ensures g w d) _ (c .if1 .left)
+returns-2 c = λ g w l d r. and-first (c .before .contains .ensures g w d) _ (c .if1 .left)
 
 pub is-unvisited-spec : {M : Type 1} → statement M
 is-unvisited-spec = tie.close (tie.spec contains-requires row-contains-requires returns returns-2)

@@ -10,7 +10,7 @@ use Rattle.definition.specs.Lists.{filter}
 use Rattle.definition.specs.Tree.{Node, leaves}
 use Rattle.definition.specs.Modality.{Necessity}
 use Rattle.tree.proofs.Paths.{listed-as}
-use Rattle.modality.specs.Stored.{InRow}
+use Rattle.necessities.specs.Stored.{InRow}
 use Rattle.modality.specs.Stands.{Stands}
 use Rattle.modality.proofs.Fill.{fill-start, fill-next, fill-end}
 use Rattle.modality.proofs.Give.{through, leaves-by}
@@ -42,10 +42,10 @@ loop-less : tie.Need-loop-less Inv-loop μ-loop
 loop-less c = search needs
 
 loop-again : tie.Need-loop-again Inv-loop μ-loop
-loop-again c = (search needs, λ t s l d r a h p. fill-next (through t s) (leaves t) l _ _ (omega (arith, listed-count a h, c  .before .before .before .before .loop-test .taken)) (c  .before .before .before .nth .ensures (leaves t) _ a h (c  .before .before .before .before .loop-test .taken)) (c  .before .before .path-runs-through .ensures t s d r) (c  .before .before .before .before .before .loop .inv .1 t s l d r a h p) (c .push-if .ensures))
+loop-again c = (search needs, λ t s l d r a h p. fill-next (through t s) (leaves t) l _ _ (omega (arith, listed-count a h, c .before .before .before .before .loop-test .taken)) (c .before .before .before .nth .ensures (leaves t) _ a h (c .before .before .before .before .loop-test .taken)) (c .before .before .path-runs-through .ensures t s d r) (c .before .before .before .before .before .loop .inv .1 t s l d r a h p) (c .push-if .ensures))
 
 returns : tie.Need-returns Inv-loop μ-loop
-returns c = λ t s l d r a h p. listed-as _ (ap (λ (x : List ℕ). l ++ x) (leaves-by t s)) (fill-end (through t s) (leaves t) l (c .before .loop .j) (omega (arith, listed-count a h, c .loop-test .left)) (c  .before .loop .inv .1 t s l d r a h p))
+returns c = λ t s l d r a h p. listed-as _ (ap (λ (x : List ℕ). l ++ x) (leaves-by t s)) (fill-end (through t s) (leaves t) l (c .before .loop .j) (omega (arith, listed-count a h, c .loop-test .left)) (c .before .loop .inv .1 t s l d r a h p))
 
 pub leaves-of-spec : {M : Type 1} → statement M
 leaves-of-spec =

@@ -7,7 +7,7 @@ new-node-requires : tie.Need-new-node-requires
 new-node-requires c κs = search needs
 
 returns : tie.Need-returns
-returns c = λ ns p. make-one ns _ (c  .before .before .if1 .taken) (c .new-node .ensures ns p)
+returns c = λ ns p. make-one ns _ (c .before .before .if1 .taken) (c .new-node .ensures ns p)
 
 returns-2 : tie.Need-returns-2
 returns-2 c = λ ns p. make-none ns _ (c .if1 .left) p

@@ -14,7 +14,7 @@ parent-of-requires : tie.Need-parent-of-requires
 parent-of-requires c κs = search needs
 
 returns-2 : tie.Need-returns-2
-returns-2 c = λ t d. stands-in (λ (n : Node). n .parent) d _ (c  .before .if1 .left) (c .parent-of .ensures)
+returns-2 c = λ t d. stands-in (λ (n : Node). n .parent) d _ (c .before .if1 .left) (c .parent-of .ensures)
 
 pub parent-before-spec : {M : Type 1} → statement M
 parent-before-spec = tie.close (tie.spec cast-if1 returns parent-of-requires returns-2)

@@ -23,13 +23,13 @@ is-none-requires : tie.Need-is-none-requires Inv-loop μ-loop
 is-none-requires c κs = search needs
 
 returns : tie.Need-returns Inv-loop μ-loop
-returns c = λ t d. climb-none t (eqb (c  .before .before .before .before .args .x .0)) _ _ _ (c  .before .before .before .loop .inv .1 t d) (c  .before .is-none .ensures) (c .if1 .taken)
+returns c = λ t d. climb-none t (eqb (c .before .before .before .before .args .x .0)) _ _ _ (c .before .before .before .loop .inv .1 t d) (c .before .is-none .ensures) (c .if1 .taken)
 
 is-requires : tie.Need-is-requires Inv-loop μ-loop
 is-requires c κs = search needs
 
 returns-2 : tie.Need-returns-2 Inv-loop μ-loop
-returns-2 c = λ t d. climb-hit t (eqb (c  .before .before .before .before .before .before .args .x .0)) _ _ _ (c  .before .before .before .before .before .loop .inv .1 t d) (c  .before .before .before .before .loop-test .taken) (c  .before .before .before .is-none .ensures) (c  .before .before .if1 .left) (c  .before .is .ensures) (c .if2 .taken)
+returns-2 c = λ t d. climb-hit t (eqb (c .before .before .before .before .before .before .args .x .0)) _ _ _ (c .before .before .before .before .before .loop .inv .1 t d) (c .before .before .before .before .loop-test .taken) (c .before .before .before .is-none .ensures) (c .before .before .if1 .left) (c .before .is .ensures) (c .if2 .taken)
 
 parent-before-requires : tie.Need-parent-before-requires Inv-loop μ-loop
 parent-before-requires c κs = search needs
@@ -41,10 +41,10 @@ loop-less : tie.Need-loop-less Inv-loop μ-loop
 loop-less c = search needs
 
 loop-again : tie.Need-loop-again Inv-loop μ-loop
-loop-again c = (search needs, λ t d. climb-next t (eqb (c  .before .before .before .before .before .before .before .args .x .0)) _ _ _ (c  .before .before .before .before .before .before .loop .inv .1 t d) (c  .before .before .before .before .before .loop-test .taken) (c  .before .before .before .before .is-none .ensures) (c  .before .before .before .if1 .left) _ (c  .before .before .is .ensures) (c  .before .if2 .left) (c .parent-before .ensures t d))
+loop-again c = (search needs, λ t d. climb-next t (eqb (c .before .before .before .before .before .before .before .args .x .0)) _ _ _ (c .before .before .before .before .before .before .loop .inv .1 t d) (c .before .before .before .before .before .loop-test .taken) (c .before .before .before .before .is-none .ensures) (c .before .before .before .if1 .left) _ (c .before .before .is .ensures) (c .before .if2 .left) (c .parent-before .ensures t d))
 
 returns-3 : tie.Need-returns-3 Inv-loop μ-loop
-returns-3 c = λ t d. climb-end t (eqb (c  .before .before .args .x .0)) _ _ _ (c  .before .loop .inv .1 t d) (c .loop-test .left)
+returns-3 c = λ t d. climb-end t (eqb (c .before .before .args .x .0)) _ _ _ (c .before .loop .inv .1 t d) (c .loop-test .left)
 
 pub path-goes-through-spec : {M : Type 1} → statement M
 path-goes-through-spec =

@@ -7,7 +7,7 @@ push-requires : tie.Need-push-requires
 push-requires c κs = search needs
 
 returns : tie.Need-returns
-returns c = λ l p. fill-one l _ (c  .before .before .if1 .taken) (c .push .ensures l p)
+returns c = λ l p. fill-one l _ (c .before .before .if1 .taken) (c .push .ensures l p)
 
 returns-2 : tie.Need-returns-2
 returns-2 c = λ l p. fill-none l _ (c .if1 .left) p

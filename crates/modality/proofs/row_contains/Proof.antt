@@ -20,7 +20,7 @@ contains-requires : tie.Need-contains-requires
 contains-requires c κs = search needs
 
 returns-3 : tie.Need-returns-3
-returns-3 c = λ l d. row-has d _ (c  .before .if2 .left) (c .contains .ensures)
+returns-3 c = λ l d. row-has d _ (c .before .if2 .left) (c .contains .ensures)
 
 pub row-contains-spec : {M : Type 1} → statement M
 row-contains-spec =

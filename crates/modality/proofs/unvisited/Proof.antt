@@ -11,7 +11,7 @@ use Rattle.definition.specs.Modality.{Necessity}
 use Rattle.definition.proofs.Issued.{length-from}
 use Rattle.graph.specs.Drawn.{Drawn}
 use Rattle.tree.proofs.Paths.{listed-as}
-use Rattle.modality.specs.Stored.{InRow}
+use Rattle.necessities.specs.Stored.{InRow}
 use Rattle.modality.proofs.Lists.{below-get}
 use Rattle.modality.proofs.Fill.{fill-start, fill-next, fill-end}
 use Rattle.modality.proofs.Give.{fresh, unvisited-by}

@@ -14,7 +14,7 @@ world-of-requires : tie.Need-world-of-requires
 world-of-requires c κs = search needs
 
 returns-2 : tie.Need-returns-2
-returns-2 c = λ t d. stands-in (λ (n : Node). n .world) d _ (c  .before .if1 .left) (c .world-of .ensures)
+returns-2 c = λ t d. stands-in (λ (n : Node). n .world) d _ (c .before .if1 .left) (c .world-of .ensures)
 
 pub world-before-spec : {M : Type 1} → statement M
 world-before-spec = tie.close (tie.spec cast-if1 returns world-of-requires returns-2)

@@ -1,0 +1,142 @@
+-- A fork's nodes placed, and what a possibility leaves.
+use Prim.Native.Nat.{ℕ, suc, min, _<_, _≤_, _+_}
+use mathlib.Core.Bool.{true, false}
+use mathlib.Core.Path.{_≡_, refl, sym, ap, _∙_, subst}
+use mathlib.Core.List.{List, [], _∷_, _++_, map, append-assoc}
+use mathlib.Core.Logic.{_⊎_, inl, inr}
+use native.Mathlib.Omega.{arith}
+use lib.ListN.{length, replicate, length-append}
+use Rattle.arrays.specs.Listed.{Listed}
+use Rattle.arrays.proofs.Listed.{listed-fits}
+use Rattle.definition.specs.Flags.{Flags}
+use Rattle.definition.specs.Records.{Rec, nobody}
+use Rattle.definition.specs.Graph.{Graph, initializeGraphIfNeeded, forkedWorld, fork}
+use Rattle.definition.specs.Tree.{Node, newNode, nodeAt, leaves, leavesBelow}
+use Rattle.definition.specs.Subtree.{Subtree, Placed, Targeted, withMiddle, appendSubtree, appendLogicRuleResult}
+use Rattle.definition.specs.Modality.{Fork, Made, reapplyNecessityAfterPossibility, necessitiesAfterPossibility}
+use Rattle.definition.specs.Run.{State, applyPossibility}
+use Rattle.definition.proofs.Edges.{init-one, init-less}
+use Rattle.definition.proofs.Treed.{leaves-few}
+use Rattle.definition.proofs.Nodes.{ext-subtree, ext-result}
+use Rattle.graph.specs.Drawn.{Drawn}
+use Rattle.tree.specs.Lay.{Held, held}
+use Rattle.tree.specs.Chain.{chainOf}
+use Rattle.tree.proofs.Paths.{listed-as, leaves-as}
+use Rattle.tree.proofs.Nodes.{held-ok, held-fits, held-long, held-as}
+use Rattle.necessities.specs.Stack.{Stack}
+use Rattle.subtree.specs.declared.ProofSubtree.{ProofSubtree}
+use Rattle.subtree.specs.declared.Counts.{Counts}
+use Rattle.subtree.specs.Subtree.{subtreeOf, Within, Left}
+use Rattle.subtree.specs.Rows.{Row, Rows, itemFrom}
+use Rattle.subtree.proofs.Rows.{rows-none, rows-more}
+use Rattle.logic.specs.declared.Given.{Given}
+use Rattle.logic.specs.declared.Sizes.{Sizes}
+use Rattle.logic.specs.Gave.{Listing, Gave}
+use Rattle.logic.specs.Sizes.{Before, After, placing}
+
+-- the comment stands above
+pub commented : (start : ℕ) →
+    subtreeOf (record { left = record { start = 0; count = 0; rising = true }; middle = record { start = start; count = 2; rising = false }; right = record { start = 0; count = 0; rising = true } }) ≡ withMiddle (suc start ∷ start ∷ [])
+unfolding subtreeOf chainOf
+commented start = refl
+
+pub two-nodes : (ns : List Node) (a b : Node) {r : ℕ} {ta : List ℕ} → Held ((ns ++ (a ∷ [])) ++ (b ∷ [])) r ta → Held (ns ++ (a ∷ b ∷ [])) r ta
+two-nodes ns a b h = held-as (ns ++ (a ∷ b ∷ [])) (append-assoc ns (a ∷ []) (b ∷ [])) h
+
+-- the items of a fork
+abbrev pub forkItem : ℕ → ℕ → Targeted
+forkItem x base = record { target = x; subtree = withMiddle (suc base ∷ base ∷ []) }
+
+pub fork-full : {ns : List Node} {len n : ℕ} {a w : List ℕ} (q : List ℕ) (rs : List Targeted) → 512 < len → Held ns len a → Left (appendLogicRuleResult ns q rs) (record { nodes = len; waiting = n }) a w
+fork-full {ns} q rs big h = record { nodes = held-long _ h big (ext-result rs ns q .longer); queue = λ small. absurd (omega (arith, small, big)) }
+
+pub left-as : {p g : Placed} {r : Counts} {a w : List ℕ} → p ≡ g → Left p r a w → Left g r a w
+left-as {p} {g} {r} {a} {w} e l = subst (λ (v : Placed). Left v r a w) e l
+
+pub fork-placed : (ns : List Node) (q : List ℕ) (more : List Targeted) (x base : ℕ) (s : ProofSubtree) {len n items : ℕ} {ta tb tc wa wb wc ia : List ℕ} {top r : Counts} →
+    len ≤ 512 → Held ns len ta → Listed q n wa → base + 2 ≤ length ns → (len ≤ 512 → Listing [] more items len ia) →
+    (base + 2 ≤ 512 → (subtreeOf s ≡ withMiddle (suc base ∷ base ∷ [])) × ((m : ℕ) → base + 2 ≤ m → Within s m)) →
+    ((ns : List Node) (q : List ℕ) → Held ns len ta → (len ≤ 512 → Listed q n wa) → Within s (length ns) → Left (appendSubtree ns q x (subtreeOf s)) top tb wb) →
+    ((ns : List Node) (q : List ℕ) (rs : List Row) → Held ns (top .nodes) tb → (top .nodes ≤ 512 → Listed q (top .waiting) wb) → (top .nodes ≤ 512 → Rows rs items ia (length ns)) →
+    Left (appendLogicRuleResult ns q (map itemFrom rs)) r tc wc) →
+    Left (appendLogicRuleResult ns q (forkItem x base ∷ more)) r tc wc
+unfolding appendLogicRuleResult
+fork-placed ns q more x base s small h l low list comment one rest =
+    let e = held-ok h small .0 in
+    let c = comment (omega (arith, low, e, small)) in
+    let first = one ns q h (λ _. l) (c .1 (length ns) low) in
+    let put = list small in
+    let p = appendSubtree ns q x (subtreeOf s) in
+    let long = ext-subtree ns q x (subtreeOf s) .longer in
+    let second = rest (p .nodes) (p .waiting) (put .all) (first .nodes) (first .queue) (λ _. rows-more (omega (arith, e, long)) (put .rows)) in
+    left-as (ap (λ (rs : List Targeted). appendLogicRuleResult (p .nodes) (p .waiting) rs) (put .are)
+    ∙ ap (λ (t : Subtree). appendLogicRuleResult (appendSubtree ns q x t .nodes) (appendSubtree ns q x t .waiting) more) (c .0)) second
+
+-- the graph has room for one world more
+pub known-few : (F : Flags) (g : Graph) {n m : ℕ} {a b : List ℕ} → Drawn g n a → n < 25 → Drawn (initializeGraphIfNeeded F g) m b → m < 25
+known-few F g {n} {m} d few k = go (init-less F g)
+  where
+    go : (g .worlds ≡ 0) ⊎ (initializeGraphIfNeeded F g .worlds ≡ g .worlds) → m < 25
+    go (inl e) = omega (arith, init-one F g e, k .count)
+    go (inr e) = omega (arith, e, k .count, d .count, few)
+
+module _ (F : Flags) (s : State) (x : ℕ) (recs : List Rec) (f : ℕ) (q : List ℕ) where
+  abbrev g₀ : Graph
+  g₀ = initializeGraphIfNeeded F (s .graph)
+
+  abbrev pub forked : Graph
+  forked = fork F g₀ (nodeAt (s .nodes) x .world)
+
+  abbrev pub forking : Fork
+  forking = record { node = x; world = forkedWorld g₀ }
+
+  abbrev pub both : List Node
+  both = newNode x f (forkedWorld g₀) ∷ newNode x nobody 0 ∷ []
+
+  pub possibility-after : {made : Given} {r : Counts} {base c n worlds : ℕ} {ta tb ea ra la va oa wa wb ia : List ℕ} → length (s .nodes) ≡ base →
+      Gave (s .nodes ++ both) [] (reapplyNecessityAfterPossibility (s .nodes) forked forking (length (s .nodes ++ both)) (s .necessities)) made ta ia →
+      (made .nodes ≤ 512 → Stack (necessitiesAfterPossibility (s .nodes) forked forking (s .necessities)) c oa ra la va) → Drawn forked worlds ea → Listed q n wa →
+      ((ns : List Node) (q : List ℕ) (more : List Targeted) → Held ns (made .nodes) ta → Listed q n wa → base + 2 ≤ length ns → (made .nodes ≤ 512 → Listing [] more (made .items) (made .nodes) ia) →
+      Left (appendLogicRuleResult ns q (forkItem x base ∷ more)) r tb wb) →
+      After (record { nodes = r .nodes; waiting = r .waiting; worlds = worlds; necessities = c }) tb ea ra la va oa wb (applyPossibility F s x recs f) (placing s q (applyPossibility F s x recs f))
+  unfolding applyPossibility
+  possibility-after {made} {r} {base} {ta = ta} {ia = ia} e gave stack d l place =
+      let n = length (s .nodes) in
+      let two : length (s .nodes ++ both) ≡ n + 2 = length-append (s .nodes) both in
+      let R = reapplyNecessityAfterPossibility (s .nodes) forked forking (n + 2) (s .necessities) in
+      let got = subst (λ (k : ℕ). Gave (s .nodes ++ both) [] (reapplyNecessityAfterPossibility (s .nodes) forked forking k (s .necessities)) made ta ia) two gave in
+      let assoc : (s .nodes ++ both) ++ R .nodes ≡ s .nodes ++ (both ++ R .nodes) = append-assoc (s .nodes) both (R .nodes) in
+      let all = s .nodes ++ (both ++ R .nodes) in
+      let h = held-as all assoc (got .nodes) in
+      let low : base + 2 ≤ length all = omega (arith, e, two, ap length assoc, length-append (s .nodes ++ both) (R .nodes)) in
+      let p = place all q (R .subtrees) h l low (got .rows) in
+      let same : forkItem x base ∷ R .subtrees ≡ forkItem x n ∷ R .subtrees = ap (λ (k : ℕ). forkItem x k ∷ R .subtrees) (sym e) in
+      let out = left-as (ap (appendLogicRuleResult all q) same) p in
+      record {
+        nodes = out .nodes;
+        rest = λ small.
+            let made-small = held-fits h (omega (arith, held-ok (out .nodes) small .0, small, ext-result (forkItem x n ∷ R .subtrees) all q .longer)) in
+            record { waiting = out .queue small; graph = d; necessities = stack made-small };
+      }
+
+  pub forked-at : {v known : ℕ} {a : List ℕ} → v ≡ min known 65535 → Drawn g₀ known a → known < 25 → v ≡ forkedWorld g₀
+  forked-at e d few = omega (arith, e, d .count, few)
+
+  pub forked-drawn : {u n : ℕ} {a : List ℕ} → u ≡ nodeAt (s .nodes) x .world → Drawn (fork F g₀ u) n a → Drawn forked n a
+  forked-drawn {n = n} {a = a} e d = subst (λ (w : ℕ). Drawn (fork F g₀ w) n a) e d
+
+  pub forked-held : {v len : ℕ} {a : List ℕ} → v ≡ forkedWorld g₀ → Held (s .nodes ++ (newNode x f v ∷ newNode x nobody 0 ∷ [])) len a → Held (s .nodes ++ both) len a
+  forked-held e h = held-as (s .nodes ++ both) (ap (λ (w : ℕ). s .nodes ++ (newNode x f w ∷ newNode x nobody 0 ∷ [])) e) h
+
+pub listing-start : (len : ℕ) → Listing [] [] 0 len (replicate 1536 0)
+listing-start len = record { all = []; rows = rows-none len; are = refl }
+
+-- what a state before a rule gives
+module _ {p : Sizes} {ta ea ra la va oa wa : List ℕ} {s : State} {q : List ℕ} (b : Before p ta ea ra la va oa wa s q) where
+  pub before-held : Held (s .nodes) (p .nodes) ta
+  before-held = held (omega (arith, b .fits, b .count)) (b .count) (b .laid)
+
+  pub before-leaves : {m : ℕ} {a : List ℕ} → Listed ([] ++ leavesBelow (p .nodes) (s .nodes) 0) m a → Listed (leaves (s .nodes)) m a × (m ≤ 512)
+  before-leaves l =
+      let k = listed-as (leaves (s .nodes)) (leaves-as (s .nodes) (p .nodes) (b .count)) l in
+      (k, listed-fits k (omega (arith, leaves-few (s .nodes) (b .treed), b .fits)))

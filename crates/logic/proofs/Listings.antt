@@ -1,0 +1,39 @@
+-- Rows of subtrees, and what they stand for.
+use Prim.Native.Nat.{ℕ, _≤_, _-_, _+_}
+use mathlib.Core.Path.{_≡_, refl, sym, ap, _∙_, subst}
+use mathlib.Core.List.{List, [], _∷_, _++_, map, append-nil, append-assoc}
+use native.Mathlib.Omega.{arith}
+use Rattle.definition.specs.Lists.{upFrom}
+use Rattle.definition.specs.Subtree.{Targeted, withMiddle}
+use Rattle.subtree.specs.Rows.{Row, Rows, itemFrom}
+use Rattle.logic.specs.Gave.{Listing}
+
+map-append : {A B : Type 0} (f : A → B) (xs ys : List A) → map f (xs ++ ys) ≡ map f xs ++ map f ys
+map-append f [] ys = refl
+map-append f (x ∷ xs) ys = ap (λ (zs : List _). f x ∷ zs) (map-append f xs ys)
+
+-- an item of n identifiers
+abbrev pub item : ℕ → ℕ → ℕ → Targeted
+item target n start = record { target = target; subtree = withMiddle (upFrom n start) }
+
+-- one row more
+pub listing-one : {rs : List Row} {count start finish : ℕ} {ia : List ℕ} (target : ℕ) →
+    Rows (rs ++ (record { target = target; start = start; count = finish - start } ∷ [])) count ia (start + (finish - start)) → start ≤ finish →
+    Listing rs (item target (finish - start) start ∷ []) count finish ia
+listing-one {rs} {count} {start} {finish} {ia} target h up =
+    let e : start + (finish - start) ≡ finish = omega (arith, up) in
+    let all = rs ++ (record { target = target; start = start; count = finish - start } ∷ []) in
+    record { all = all; rows = subst (λ (m : ℕ). Rows all count ia m) e h; are = map-append itemFrom rs _ }
+
+-- rows of two parts
+pub listing-both : {rs : List Row} {count count′ len len′ : ℕ} {ia ia′ : List ℕ} (xs ys : List Targeted) (l : Listing rs xs count len ia) → Listing (l .all) ys count′ len′ ia′ → Listing rs (xs ++ ys) count′ len′ ia′
+listing-both {rs} xs ys l m =
+    record { all = m .all; rows = m .rows; are = m .are ∙ ap (λ (v : List Targeted). v ++ ys) (l .are) ∙ append-assoc (map itemFrom rs) xs ys }
+
+pub listing-as : {rs : List Row} {count len : ℕ} {ia : List ℕ} (target : ℕ) {n n′ s s′ : ℕ} → n ≡ n′ → s ≡ s′ → Listing rs (item target n s ∷ []) count len ia → Listing rs (item target n′ s′ ∷ []) count len ia
+listing-as {rs} {count} {len} {ia} target {n} {n′} {s} {s′} d e l =
+    subst (λ (v : ℕ). Listing rs (item target v s′ ∷ []) count len ia) d (subst (λ (v : ℕ). Listing rs (item target n v ∷ []) count len ia) e l)
+
+-- the rows as they are, and none more
+pub listing-self : {rs : List Row} {more : List Targeted} {count len : ℕ} {ia : List ℕ} (l : Listing rs more count len ia) → Listing (l .all) [] count len ia
+listing-self l = record { all = l .all; rows = l .rows; are = sym (append-nil (map itemFrom (l .all))) }

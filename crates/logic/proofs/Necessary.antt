@@ -1,0 +1,75 @@
+-- What a necessity leaves.
+use Prim.Native.Nat.{ℕ, _<_, _≤_}
+use mathlib.Core.Path.{_≡_, refl, sym, ap, _∙_, subst}
+use mathlib.Core.List.{List, [], _∷_, _++_, map, append-nil}
+use mathlib.Core.Option.{none}
+use native.Mathlib.Omega.{arith}
+use lib.ListN.{length, getD, set}
+use Rattle.arrays.specs.Listed.{Listed}
+use Rattle.arrays.proofs.Listed.{listed-fits}
+use Rattle.definition.specs.Lists.{Each, elem, filter}
+use Rattle.definition.specs.Flags.{Flags}
+use Rattle.definition.specs.Records.{Rec}
+use Rattle.definition.specs.Graph.{Graph, initializeGraphIfNeeded}
+use Rattle.definition.specs.Tree.{Node, nodeAt, leaves, path}
+use Rattle.definition.specs.Subtree.{Targeted, appendLogicRuleResult}
+use Rattle.definition.specs.Modality.{Necessity, reapplyNecessity, visiting}
+use Rattle.definition.specs.Run.{State, applyNecessity}
+use Rattle.definition.proofs.Lists.{each-map, filter-keeps}
+use Rattle.definition.proofs.Treed.{leaves-within, leaves-few}
+use Rattle.definition.proofs.Nodes.{ext-result}
+use Rattle.graph.specs.Drawn.{Drawn}
+use Rattle.tree.specs.Lay.{Held}
+use Rattle.tree.proofs.Nodes.{held-ok, held-fits, held-as}
+use Rattle.necessities.specs.Stack.{Stack, fresh}
+use Rattle.subtree.specs.declared.Counts.{Counts}
+use Rattle.subtree.specs.Subtree.{Left}
+use Rattle.subtree.specs.Rows.{Row, Rows, itemFrom}
+use Rattle.subtree.proofs.Rows.{rows-more}
+use Rattle.logic.specs.declared.Given.{Given}
+use Rattle.logic.specs.declared.Sizes.{Sizes}
+use Rattle.logic.specs.Gave.{Listing, Gave}
+use Rattle.logic.specs.Sizes.{Before, After, placing}
+use Rattle.logic.proofs.Reapply.{filter-few}
+use Rattle.logic.proofs.Forked.{left-as}
+
+pub given-placed : (ns : List Node) (q : List ℕ) (more : List Targeted) {len n items : ℕ} {ta tb wa wb ia : List ℕ} {r : Counts} → len ≤ 512 → Held ns len ta → Listed q n wa → (len ≤ 512 → Listing [] more items len ia) →
+    ((ns : List Node) (q : List ℕ) (rs : List Row) → Held ns len ta → (len ≤ 512 → Listed q n wa) → (len ≤ 512 → Rows rs items ia (length ns)) → Left (appendLogicRuleResult ns q (map itemFrom rs)) r tb wb) →
+    Left (appendLogicRuleResult ns q more) r tb wb
+given-placed ns q more small h l list rest =
+    let put = list small in
+    let e = held-ok h small .0 in
+    left-as (ap (λ (rs : List Targeted). appendLogicRuleResult ns q rs) (put .are)) (rest ns q (put .all) h (λ _. l) (λ _. rows-more (omega (arith, e)) (put .rows)))
+
+module _ (F : Flags) (s : State) (x : ℕ) (recs : List Rec) (f : ℕ) (q : List ℕ) where
+  abbrev pub graph : Graph
+  graph = initializeGraphIfNeeded F (s .graph)
+
+  abbrev pub through : List ℕ
+  through = filter (λ leaf. elem x (path (s .nodes) leaf)) (leaves (s .nodes))
+
+  abbrev pub necessity : Necessity
+  necessity = fresh f (nodeAt (s .nodes) x .world) x through
+
+  pub fresh-as : {w : ℕ} {c : ℕ} {oa ra la va : List ℕ} → w ≡ nodeAt (s .nodes) x .world → Stack (fresh f w x through ∷ s .necessities) c oa ra la va → Stack (necessity ∷ s .necessities) c oa ra la va
+  fresh-as {c = c} {oa} {ra} {la} {va} e h = subst (λ (v : ℕ). Stack (fresh f v x through ∷ s .necessities) c oa ra la va) e h
+
+  pub through-fits : {p : Sizes} {ta ea ra la va oa wa : List ℕ} → Before p ta ea ra la va oa wa s q → {m : ℕ} {a : List ℕ} → Listed through m a → (m ≤ 512) × Each (λ y. y < 512) through
+  through-fits b l = (
+    listed-fits l (omega (arith, filter-few (λ leaf. elem x (path (s .nodes) leaf)) (leaves (s .nodes)), leaves-few (s .nodes) (b .treed), b .fits)),
+    each-map (λ y (h : y < length (s .nodes)). omega (arith, h, b .fits)) through (filter-keeps (λ y. y < length (s .nodes)) (λ leaf. elem x (path (s .nodes) leaf)) (leaves (s .nodes)) (leaves-within (s .nodes) (b .treed))),
+  )
+
+  pub necessity-after : {made : Given} {r : Counts} {c k worlds : ℕ} {ta tb ea ra la va oa wa wb ia : List ℕ} →
+      Gave (s .nodes ++ []) [] (reapplyNecessity (s .nodes) graph none (length (s .nodes ++ [])) necessity) made ta ia →
+      Stack (visiting (s .nodes) graph necessity ∷ s .necessities) c oa ra la va → Drawn graph worlds ea → Listed q k wa →
+      ((ns : List Node) (q : List ℕ) (more : List Targeted) → Held ns (made .nodes) ta → Listed q k wa → (made .nodes ≤ 512 → Listing [] more (made .items) (made .nodes) ia) →
+      Left (appendLogicRuleResult ns q more) r tb wb) →
+      After (record { nodes = r .nodes; waiting = r .waiting; worlds = worlds; necessities = c }) tb ea ra la va oa wb (applyNecessity F s x recs f) (placing s q (applyNecessity F s x recs f))
+  unfolding applyNecessity fresh
+  necessity-after {made} {ta = ta} {ia = ia} gave stack d l place =
+      let t = s .nodes in
+      let R = reapplyNecessity t graph none (length t) necessity in
+      let got = subst (λ (ns : List Node). Gave ns [] (reapplyNecessity t graph none (length ns) necessity) made ta ia) (append-nil t) gave in
+      let out = place (t ++ R .nodes) q (R .subtrees) (got .nodes) l (got .rows) in
+      record { nodes = out .nodes; rest = λ small. record { waiting = out .queue small; graph = d; necessities = stack } }

@@ -1,0 +1,2 @@
+pub mod Gave
+pub mod Sizes

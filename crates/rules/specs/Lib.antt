@@ -1,0 +1,4 @@
+pub mod Choice
+pub mod Consequences
+pub mod Expands
+pub mod Here
