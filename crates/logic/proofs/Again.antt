@@ -1,6 +1,6 @@
 -- The loop over the stack of necessities at a fork.
 use Prim.Native.Nat.{ℕ, zero, suc, _<_, _≤_, _+_}
-use mathlib.Core.Path.{_≡_, refl, sym, ap, ap₂, _∙_, subst}
+use mathlib.Core.Path.{_≡_, refl, sym, ap, _∙_, subst}
 use mathlib.Core.Bool.{cond}
 use mathlib.Core.List.{List, [], _∷_, _++_, map, reverse, append-nil, append-assoc}
 use native.Mathlib.Omega.{arith}

@@ -13,7 +13,7 @@ use Rattle.definition.specs.Records.{Rec, nobody}
 use Rattle.definition.specs.Graph.{Graph, initializeGraphIfNeeded, forkedWorld, fork}
 use Rattle.definition.specs.Tree.{Node, newNode, nodeAt, leaves, leavesBelow}
 use Rattle.definition.specs.Subtree.{Subtree, Placed, Targeted, withMiddle, appendSubtree, appendLogicRuleResult}
-use Rattle.definition.specs.Modality.{Fork, Made, reapplyNecessityAfterPossibility, necessitiesAfterPossibility}
+use Rattle.definition.specs.Modality.{Fork, reapplyNecessityAfterPossibility, necessitiesAfterPossibility}
 use Rattle.definition.specs.Run.{State, applyPossibility}
 use Rattle.definition.proofs.Edges.{init-one, init-less}
 use Rattle.definition.proofs.Treed.{leaves-few}

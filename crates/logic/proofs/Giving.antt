@@ -8,15 +8,14 @@ use lib.ListN.{length, getD, drop, length-append, length-map, drop-of-length-le}
 use lib.Seq.{drop-cons}
 use Rattle.arrays.specs.Listed.{Listed}
 use Rattle.arrays.proofs.Listed.{listed-count}
-use Rattle.definition.specs.Lists.{filter, upFrom}
+use Rattle.definition.specs.Lists.{filter}
 use Rattle.definition.specs.Tree.{Node, newNode, path}
 use Rattle.definition.specs.Subtree.{Targeted}
 use Rattle.definition.specs.Modality.{Necessity, Fork, occurs, Made, giveOn}
 use Rattle.tree.specs.Lay.{Held}
 use Rattle.tree.proofs.Nodes.{held-ok, held-fits, held-as}
-use Rattle.logic.specs.declared.Given.{Given}
 use Rattle.subtree.specs.Rows.{Row, Rows}
-use Rattle.logic.specs.Gave.{Listing, Gave}
+use Rattle.logic.specs.Gave.{Listing}
 use Rattle.logic.proofs.Listings.{item, listing-as, listing-both}
 
 module _ (t : List Node) (fk : Option Fork) (n : Necessity) (ws : List ℕ) where

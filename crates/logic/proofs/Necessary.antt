@@ -1,10 +1,10 @@
 -- What a necessity leaves.
 use Prim.Native.Nat.{ℕ, _<_, _≤_}
-use mathlib.Core.Path.{_≡_, refl, sym, ap, _∙_, subst}
+use mathlib.Core.Path.{_≡_, ap, subst}
 use mathlib.Core.List.{List, [], _∷_, _++_, map, append-nil}
 use mathlib.Core.Option.{none}
 use native.Mathlib.Omega.{arith}
-use lib.ListN.{length, getD, set}
+use lib.ListN.{length}
 use Rattle.arrays.specs.Listed.{Listed}
 use Rattle.arrays.proofs.Listed.{listed-fits}
 use Rattle.definition.specs.Lists.{Each, elem, filter}
@@ -17,10 +17,9 @@ use Rattle.definition.specs.Modality.{Necessity, reapplyNecessity, visiting}
 use Rattle.definition.specs.Run.{State, applyNecessity}
 use Rattle.definition.proofs.Lists.{each-map, filter-keeps}
 use Rattle.definition.proofs.Treed.{leaves-within, leaves-few}
-use Rattle.definition.proofs.Nodes.{ext-result}
 use Rattle.graph.specs.Drawn.{Drawn}
 use Rattle.tree.specs.Lay.{Held}
-use Rattle.tree.proofs.Nodes.{held-ok, held-fits, held-as}
+use Rattle.tree.proofs.Nodes.{held-ok}
 use Rattle.necessities.specs.Stack.{Stack, fresh}
 use Rattle.subtree.specs.declared.Counts.{Counts}
 use Rattle.subtree.specs.Subtree.{Left}

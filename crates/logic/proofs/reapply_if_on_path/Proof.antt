@@ -1,9 +1,8 @@
 use borrow.Author.Needs.{needs}
-use mathlib.Core.Path.{_≡_, sym, ap, _∙_, subst}
-use mathlib.Core.Option.{some}
+use mathlib.Core.Path.{sym, ap}
 use native.Mathlib.Omega.{arith}
 use lib.ListN.{getD}
-use Rattle.definition.specs.Modality.{Fork, reapplyNecessity}
+use Rattle.definition.specs.Modality.{Fork}
 use Rattle.arrays.proofs.Listed.{listed-none}
 use Rattle.necessities.proofs.Stacks.{stack-row}
 use Rattle.logic.proofs.Reapply.{row-as, stands, paths-fit, gave-full, kept-out, stack-out, kept-in, stack-in}

@@ -1,5 +1,5 @@
 use borrow.Author.Needs.{needs}
-use Prim.Native.Nat.{ℕ, _≤_, _-_}
+use Prim.Native.Nat.{_≤_, _-_}
 use mathlib.Core.Path.{_≡_}
 use mathlib.Core.List.{List, [], _++_}
 use native.Mathlib.Omega.{arith}
@@ -15,7 +15,7 @@ use Rattle.subtree.specs.Rows.{Row}
 use Rattle.logic.specs.Gave.{Listing}
 use Rattle.necessities.proofs.Stacks.{stack-count}
 use Rattle.logic.proofs.Listings.{listing-self}
-use Rattle.logic.proofs.Again.{Again, blank, mapped, again-start, again-full, again-next, again-end, turned-after}
+use Rattle.logic.proofs.Again.{Again, blank, again-start, again-full, again-next, again-end, turned-after}
 use Rattle.logic.proofs.reapply_necessity_after_possibility.Statement.{statement}
 use Rattle.logic.proofs.reapply_necessity_after_possibility.Tie as tie
 

@@ -1,6 +1,5 @@
 use borrow.Author.Needs.{needs}
 use mathlib.Core.Path.{sym, _∙_}
-use native.Mathlib.Omega.{arith}
 use Rattle.tree.proofs.Paths.{listed-as}
 use Rattle.logic.proofs.Reapply.{visit-none, visit-some}
 use Rattle.logic.proofs.worlds_to_visit.Statement.{statement}

@@ -1,0 +1,93 @@
+-- A rule applied, its result placed, and the contradictions checked.
+use Prim.Native.Nat.{ℕ, _≤_}
+use mathlib.Core.Path.{_≡_, refl, sym, ap, _∙_, subst}
+use mathlib.Core.Bool.{Bool, true, false, cond, _||_}
+use mathlib.Core.List.{List, _++_}
+use mathlib.Core.Option.{Option}
+use lib.ListN.{length}
+use Rattle.arrays.specs.Listed.{Listed}
+use Rattle.definition.specs.Lists.{all}
+use Rattle.definition.specs.Flags.{Flags}
+use Rattle.definition.specs.Records.{Rec}
+use Rattle.definition.specs.Tree.{Node, nodeAt, leaves}
+use Rattle.definition.specs.Rules.{Rule, nothing, down, split, asPossible, asNecessary}
+use Rattle.definition.specs.Subtree.{Subtree, appendSubtree, appendLogicRuleResult}
+use Rattle.definition.specs.Contradiction.{Pair, pairs, markAll, isPair}
+use Rattle.definition.specs.Run.{State, LogicRuleResult, applyHere, applyPossibility, applyNecessity, applyRule, checkedForContradictions, checkForContradictions}
+use Rattle.tree.specs.Lay.{Held}
+use Rattle.subtree.specs.declared.ProofSubtree.{ProofSubtree}
+use Rattle.subtree.specs.declared.Counts.{Counts}
+use Rattle.subtree.specs.Subtree.{subtreeOf, Within, Left}
+use Rattle.rules.specs.declared.AppliedHere.{AppliedHere}
+use Rattle.rules.specs.Here.{hereOf, Here}
+use Rattle.logic.specs.declared.Sizes.{Sizes}
+use Rattle.logic.specs.Sizes.{Before, After, placing}
+use Rattle.logic.proofs.Forked.{before-held}
+
+-- the three chains as a subtree
+abbrev pub asSubtree : AppliedHere → ProofSubtree
+asSubtree h = record { left = h .left; middle = h .middle; right = h .right }
+
+pub here-after : (s : State) (x : ℕ) (recs : List Rec) (fs : Subtree) (q : List ℕ) {p : Sizes} {ta tb tc ea ra la va oa wa wb : List ℕ} {h : AppliedHere} {r : Counts} → Before p ta ea ra la va oa wa s q →
+    (Held (s .nodes) (p .nodes) ta → Here (s .nodes) x (nodeAt (s .nodes) x .world) fs h tb) →
+    ((ns : List Node) (q : List ℕ) → Held ns (h .nodes) tb → (h .nodes ≤ 512 → Listed q (p .waiting) wa) → Within (asSubtree h) (length ns) → Left (appendSubtree ns q x (subtreeOf (asSubtree h))) r tc wb) →
+    After (record { nodes = r .nodes; waiting = r .waiting; worlds = p .worlds; necessities = p .necessities }) tc ea ra la va oa wb (applyHere s x recs fs) (placing s q (applyHere s x recs fs))
+unfolding applyHere appendLogicRuleResult subtreeOf
+here-after s x recs fs q {tc = tc} {wb = wb} {r = r} b make place =
+    let h = make (before-held b) in
+    let low = h .below (b .fits) in
+    let N = s .nodes ++ applyHere s x recs fs .nodes in
+    let put = place N q (h .nodes) (λ _. b .waiting) (record { onLeft = low .0 .0; onMiddle = low .0 .1; onRight = low .1 }) in
+    let out = subst (λ (t : Subtree). Left (appendSubtree N q x t) r tc wb) (h .chains (b .fits)) put in
+    record { nodes = out .nodes; rest = λ small. record { waiting = out .queue small; graph = b .graph; necessities = b .necessities } }
+
+-- the rules at the formula's own world
+abbrev pub Plain : Rule ℕ → Type 0
+Plain nothing = Unit {0}
+Plain (down fs) = Unit {0}
+Plain (split fs gs) = Unit {0}
+Plain (asPossible f) = ⊥
+Plain (asNecessary f) = ⊥
+
+module _ (F : Flags) (s : State) (x : ℕ) (recs : List Rec) where
+  pub rule-here : (r : Rule ℕ) → Plain r → applyHere s x recs (hereOf r) ≡ applyRule F s x recs r
+  unfolding applyRule
+  rule-here nothing h = refl
+  rule-here (down fs) h = refl
+  rule-here (split fs gs) h = refl
+  rule-here (asPossible f) h = absurd h
+  rule-here (asNecessary f) h = absurd h
+
+  pub rule-possible : (f : ℕ) → applyPossibility F s x recs f ≡ applyRule F s x recs (asPossible f)
+  unfolding applyRule
+  rule-possible f = refl
+
+  pub rule-necessary : (f : ℕ) → applyNecessity F s x recs f ≡ applyRule F s x recs (asNecessary f)
+  unfolding applyRule
+  rule-necessary f = refl
+
+pub after-as : (s : State) (q : List ℕ) {r r′ : LogicRuleResult} {p : Sizes} {ta ea ra la va oa wa : List ℕ} → r ≡ r′ → After p ta ea ra la va oa wa r (placing s q r) → After p ta ea ra la va oa wa r′ (placing s q r′)
+after-as s q {p = p} {ta} {ea} {ra} {la} {va} {oa} {wa} e h = subst (λ (r : LogicRuleResult). After p ta ea ra la va oa wa r (placing s q r)) e h
+
+-- contradictions
+module _ (F : Flags) (s : State) where
+  pub check-skipped : {b proved : Bool} {len : ℕ} {a : List ℕ} → b ≡ F .skip → b ≡ true → proved ≡ s .proved → Held (s .nodes) len a →
+      Held (checkForContradictions F s .nodes) len a × (len ≤ 512 → proved ≡ checkForContradictions F s .proved)
+  unfolding checkForContradictions
+  check-skipped {proved = proved} {len} {a} e t p h =
+      subst (λ (c : Bool). Held (cond c s (checkedForContradictions s) .nodes) len a × (len ≤ 512 → proved ≡ cond c s (checkedForContradictions s) .proved)) (sym t ∙ e) (h, λ _. p)
+
+  abbrev found : List (Option Pair)
+  found = pairs (s .formulas) (s .nodes) (leaves (s .nodes))
+
+  pub check-made : {b r : Bool} {len : ℕ} {a : List ℕ} → b ≡ F .skip → b ≡ false → Held (markAll (s .nodes) found) len a → (len ≤ 512 → r ≡ (s .proved || all isPair found)) →
+      Held (checkForContradictions F s .nodes) len a × (len ≤ 512 → r ≡ checkForContradictions F s .proved)
+  unfolding checkForContradictions checkedForContradictions
+  check-made {r = r} {len} {a} e t h k =
+      subst (λ (c : Bool). Held (cond c s (checkedForContradictions s) .nodes) len a × (len ≤ 512 → r ≡ cond c s (checkedForContradictions s) .proved)) (sym t ∙ e) (h, k)
+
+  pub or-yes : (v : Bool) {proved : Bool} → proved ≡ s .proved → proved ≡ true → true ≡ (s .proved || v)
+  or-yes v e t = ap (λ (c : Bool). c || v) (sym t ∙ e)
+
+  pub or-no : (v : Bool) {proved : Bool} → proved ≡ s .proved → proved ≡ false → v ≡ (s .proved || v)
+  or-no v e t = ap (λ (c : Bool). c || v) (sym t ∙ e)

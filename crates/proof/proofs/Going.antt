@@ -1,0 +1,54 @@
+-- The loop of steps: a state of the run, and what the run makes of it.
+use mathlib.Core.Path.{_≡_, refl, sym, ap, _∙_, subst}
+use mathlib.Core.Bool.{Bool, true, false, cond}
+use mathlib.Core.List.{List}
+use Prim.Native.Nat.{ℕ, zero, suc, _≤_, _<_, _+_, _-_}
+use native.Mathlib.Omega.{arith}
+use Rattle.definition.specs.Flags.{Flags}
+use Rattle.definition.specs.Run.{State, step, steps, stops, run}
+use Rattle.definition.proofs.Ready.{Fit, fit-step}
+use Rattle.proof.specs.declared.Progress.{Progress}
+use Rattle.proof.specs.Kept.{Kept}
+
+run-stopped : (m : ℕ) (F : Flags) (s : State) → stops s ≡ true → run m F s ≡ s
+unfolding steps
+run-stopped zero F s e = refl
+run-stopped (suc m) F s e = ap (λ (b : Bool). cond b s (run m F (step F s))) e
+
+run-next : (m : ℕ) (F : Flags) (s : State) → stops s ≡ false → run (suc m) F s ≡ run m F (step F s)
+unfolding steps
+run-next m F s e = ap (λ (b : Bool). cond b s (run m F (step F s))) e
+
+run-none : (F : Flags) (s : State) → run 0 F s ≡ s
+unfolding steps
+run-none F s = refl
+
+-- after n of at most 513 steps
+pub record Going (F : Flags) (k : ℕ) (s : State) (n : ℕ) (p : Progress) (fa ta ea ra la va oa wa : List ℕ) : Type 0 where
+  pub now : State
+  pub fit : Fit F k now
+  pub kept : Kept now p fa ta ea ra la va oa wa
+  pub ends : run (513 - n) F now ≡ run 513 F s
+
+module _ {F : Flags} {k : ℕ} {s : State} {n : ℕ} {p : Progress} {fa ta ea ra la va oa wa : List ℕ} where
+  pub going-start : Fit F k s → Kept s p fa ta ea ra la va oa wa → n ≡ 0 → Going F k s n p fa ta ea ra la va oa wa
+  going-start f h e = record { now = s; fit = f; kept = h; ends = ap (λ (m : ℕ). run (513 - m) F s) e }
+
+  pub going-stops : (g : Going F k s n p fa ta ea ra la va oa wa) {b : Bool} → b ≡ stops (g .now) → b ≡ true → Kept (run 513 F s) p fa ta ea ra la va oa wa
+  going-stops g e t = subst (λ (z : State). Kept z p fa ta ea ra la va oa wa) (sym (run-stopped (513 - n) F (g .now) (sym e ∙ t)) ∙ g .ends) (g .kept)
+
+  pub going-ends : (g : Going F k s n p fa ta ea ra la va oa wa) → 513 ≤ n → Kept (run 513 F s) p fa ta ea ra la va oa wa
+  going-ends g h =
+      let e : 513 - n ≡ 0 = omega (arith, h) in
+      subst (λ (z : State). Kept z p fa ta ea ra la va oa wa) (sym (run-none F (g .now)) ∙ ap (λ (m : ℕ). run m F (g .now)) (sym e) ∙ g .ends) (g .kept)
+
+  pub going-next : (g : Going F k s n p fa ta ea ra la va oa wa) → n < 513 → stops (g .now) ≡ false →
+      {q : Progress} {fb tb eb rb lb vb ob wb : List ℕ} → Kept (step F (g .now)) q fb tb eb rb lb vb ob wb → Going F k s (n + 1) q fb tb eb rb lb vb ob wb
+  going-next g h e next =
+      let d : 513 - n ≡ suc (513 - (n + 1)) = omega (arith, h) in
+      record {
+        now = step F (g .now);
+        fit = fit-step F k (g .now) e (g .fit);
+        kept = next;
+        ends = sym (run-next (513 - (n + 1)) F (g .now) e) ∙ ap (λ (m : ℕ). run m F (g .now)) (sym d) ∙ g .ends;
+      }

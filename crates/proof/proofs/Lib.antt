@@ -1,0 +1,4 @@
+pub mod Stopping
+pub mod Going
+pub mod Applying
+pub mod Stepping

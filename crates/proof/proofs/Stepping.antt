@@ -1,0 +1,229 @@
+-- One step: the node taken, its rule applied and placed, the contradictions checked.
+use Prim.Native.Nat.{ℕ, suc, _<_, _≤_}
+use mathlib.Core.Path.{_≡_, refl, sym, ap, _∙_, subst}
+use mathlib.Core.Bool.{Bool, true, false}
+use mathlib.Core.List.{List, [], _∷_, _++_}
+use mathlib.Core.Option.{Option, none, some}
+use native.Mathlib.Omega.{arith}
+use lib.Dec.{leb}
+use borrow.Author.Tests.{leb-true, leb-false}
+use lib.ListN.{length, length-append}
+use Rattle.arrays.specs.Listed.{Listed}
+use Rattle.definition.specs.Lists.{empty}
+use Rattle.definition.specs.Flags.{Flags}
+use Rattle.definition.specs.Records.{Rec}
+use Rattle.definition.specs.Graph.{Graph}
+use Rattle.definition.specs.Tree.{Node, nodeAt, leaves}
+use Rattle.definition.specs.Rules.{Rule, nothing, down, split, asPossible, asNecessary, expansion}
+use Rattle.definition.specs.Modality.{Necessity}
+use Rattle.definition.specs.Queue as D
+use Rattle.definition.specs.Run
+use Rattle.definition.specs.Run.{State, applyHere, applyPossibility, applyNecessity, applyRule, apply, checkedForContradictions, checkForContradictions, appended, stepBy, step, ended, stops}
+use Rattle.definition.proofs.Lists.{true-false, or-left, or-right}
+use Rattle.definition.proofs.Count.{Counted, checked-both, pop-some}
+use Rattle.definition.proofs.Priest.{made-two}
+use Rattle.definition.proofs.Ready.{Fit, Ready, ready, appended-leaves}
+use Rattle.formula.specs.Recorded.{Recorded}
+use Rattle.formula.proofs.Recorded.{recorded-fits}
+use Rattle.graph.specs.Drawn.{Drawn}
+use Rattle.tree.specs.Lay.{Held, held, tooMany}
+use Rattle.tree.specs.declared.ProofTreeNodeID.{ProofTreeNodeID}
+use Rattle.tree.proofs.Nodes.{held-ok}
+use Rattle.queue.specs.declared.Popped.{Popped}
+use Rattle.queue.specs.declared.Popped.the-variants as P
+use Rattle.queue.specs.Taking.{answer, afterwards}
+use Rattle.necessities.specs.Stack.{Stack}
+use Rattle.necessities.proofs.Stacks.{stack-count}
+use Rattle.rules.specs.declared.Expanded.{Expanded}
+use Rattle.rules.specs.Consequences.{consequenceOf}
+use Rattle.rules.specs.Expands.{Expands}
+use Rattle.logic.specs.declared.Sizes.{Sizes}
+use Rattle.logic.specs.Sizes.{Before, After, placing}
+use Rattle.proof.specs.declared.Progress.{Progress}
+use Rattle.proof.specs.Kept.{Laid, Kept, kept, full}
+use Rattle.proof.proofs.Applying.{after-as}
+
+held-over : {ns : List Node} {len : ℕ} {a : List ℕ} → Held ns len a → 512 < len → 512 < length ns
+held-over (held b e q) h = absurd (omega arith)
+held-over (tooMany b e) h = e
+
+pub kept-laid : {s : State} {p : Progress} {fa ta ea ra la va oa wa : List ℕ} → Kept s p fa ta ea ra la va oa wa → length (s .nodes) ≤ 512 → Laid s p fa ta ea ra la va oa wa
+kept-laid (kept k) h = k
+kept-laid (full a b) h = absurd (omega arith)
+
+pub waiting-some : (s : State) → stops s ≡ false → empty (s .waiting) ≡ false
+unfolding stops ended
+waiting-some s e = or-left (empty (s .waiting)) _ (or-right (s .proved) _ (or-left (ended s) (Run.full s) e))
+
+-- some node waits where a step is due, so that one is taken
+pub never-none : (s : State) → stops s ≡ false → answer (D.pop (s .formulas) (s .nodes) (s .waiting)) ≡ P.None → ⊥
+unfolding answer
+never-none s e h = waits (s .waiting) refl
+  where
+    go : (o : Option D.Popped) → D.pop (s .formulas) (s .nodes) (s .waiting) ≡ o → answer o ≡ P.None → D.pop (s .formulas) (s .nodes) (s .waiting) ≡ none
+    go none q d = q
+    go (some t) q d = let o : _≡_ {A = ℕ} 0 1 = cc in absurd (omega arith)
+
+    waits : (q : List ℕ) → s .waiting ≡ q → ⊥
+    waits [] d = true-false (sym (ap (empty {A = ℕ}) d) ∙ waiting-some s e)
+    waits (y ∷ ys) d = pop-some (s .formulas) (s .nodes) y ys (ap (D.pop (s .formulas) (s .nodes)) (sym d) ∙ go _ refl h)
+
+-- which one
+pub taken-of : (o : Option D.Popped) (x : ProofTreeNodeID) (n : ℕ) → answer o ≡ P.Node x n → (q : List ℕ) × (o ≡ some (record { node = x .0; others = q })) × (length q ≡ n)
+unfolding answer
+taken-of none x n e = let o : _≡_ {A = ℕ} 0 1 = cc in absurd (omega arith)
+taken-of (some t) x n e =
+    let y : ProofTreeNodeID = record { 0 = t .node } in
+    let i : y ≡ x = cc in
+    (t .others, ap (λ (z : ProofTreeNodeID). some (record { node = z .0; others = t .others })) i, cc)
+
+rule-made : (F : Flags) (s : State) (x : ℕ) (recs : List Rec) (r : Rule ℕ) → applyRule F s x recs r .formulas ≡ recs
+unfolding applyRule applyHere applyPossibility applyNecessity
+rule-made F s x recs nothing = refl
+rule-made F s x recs (down fs) = refl
+rule-made F s x recs (split fs gs) = refl
+rule-made F s x recs (asPossible f) = refl
+rule-made F s x recs (asNecessary f) = refl
+
+-- what a check leaves alone
+record Alike (s z : State) : Type 0 where
+  formulas : s .formulas ≡ z .formulas
+  graph : s .graph ≡ z .graph
+  necessities : s .necessities ≡ z .necessities
+  waiting : s .waiting ≡ z .waiting
+  steps : s .steps ≡ z .steps
+
+checked-alike : (F : Flags) (s : State) → Alike s (checkForContradictions F s)
+unfolding checkedForContradictions
+checked-alike F s =
+    checked-both (Alike s) F s (record { formulas = refl; graph = refl; necessities = refl; waiting = refl; steps = refl })
+    (record { formulas = refl; graph = refl; necessities = refl; waiting = refl; steps = refl })
+
+-- the state before the rule
+pub laid-before : {n : ℕ} {s : State} {q : List ℕ} {p : Progress} {fa ta ea ra la va oa wa wb : List ℕ} → Ready s → Laid s p fa ta ea ra la va oa wa → Listed q n wb →
+    Before (record { nodes = p .nodes; waiting = n; worlds = p .worlds; necessities = p .necessities }) ta ea ra la va oa wb s q
+laid-before r l w =
+    record {
+      treed = r .treed;
+      fits = r .nodes;
+      count = l .count;
+      laid = l .nodes;
+      waiting = w;
+      graph = l .graph;
+      few = omega (arith, r .worlds, l .graph .count);
+      necessities = l .necessities;
+      room = omega (arith, r .necessities, stack-count (l .necessities));
+    }
+
+-- no more wait than there are nodes
+pub waiting-fits : (F : Flags) (k : ℕ) (s : State) → Fit F k s → length (s .nodes) ≤ 512 → length (s .waiting) ≤ 512
+unfolding Counted
+waiting-fits F k s fit h = omega (arith, fit .bounded .counted, h)
+
+counted-as : {q : List ℕ} {n m : ℕ} {a : List ℕ} → n ≡ m → Listed q n a → Listed q m a
+counted-as {q} {a = a} e l = subst (λ (v : ℕ). Listed q v a) e l
+
+-- those that wait beside the node taken
+pub took : (w : List ℕ) (o : Option D.Popped) (x : ℕ) (q : List ℕ) {n : ℕ} {a : List ℕ} → o ≡ some (record { node = x; others = q }) → length q ≡ n → Listed (afterwards w o) (length (afterwards w o)) a → Listed q n a
+unfolding afterwards
+took w o x q {a = a} e c l = counted-as c (subst (λ (v : Option D.Popped). Listed (afterwards w v) (length (afterwards w v)) a) e l)
+
+pub expands-as : {rs : List Rec} {g h : ℕ} {e : Expanded} {a : List ℕ} → g ≡ h → Expands rs (expansion rs g) e a → Expands rs (expansion rs h) e a
+expands-as {rs} {e = e} {a = a} d k = subst (λ (v : ℕ). Expands rs (expansion rs v) e a) d k
+
+module _ (F : Flags) (s : State) (x : ℕ) (q : List ℕ) where
+  abbrev f : ℕ
+  f = nodeAt (s .nodes) x .formula
+
+  abbrev recs : List Rec
+  recs = expansion (s .formulas) f .made
+
+  abbrev taken : D.Popped
+  taken = record { node = x; others = q }
+
+  abbrev next : State
+  next = appended F s taken
+
+  formulas-fit : length (s .formulas) ≤ 1278 → {n : ℕ} {a : List ℕ} → Recorded (s .formulas ++ recs) n a → n ≤ 1280
+  formulas-fit h r = recorded-fits r (omega (arith, h, length-append (s .formulas) recs, made-two (s .formulas) f))
+
+  -- the rule's result, as the step has it
+  next-after : {e : Expanded} {fb : List ℕ} {a : Sizes} {tb eb rb lb vb ob wb : List ℕ} → e .formulas ≤ 1280 → Expands (s .formulas) (expansion (s .formulas) f) e fb →
+      After a tb eb rb lb vb ob wb (applyRule F s x recs (consequenceOf (e .rule))) (placing s q (applyRule F s x recs (consequenceOf (e .rule)))) →
+      After a tb eb rb lb vb ob wb (apply F s x) (placing s q (apply F s x))
+  unfolding apply
+  next-after small ex h = after-as s q (ap (applyRule F s x recs) (ex .rule small)) h
+
+  next-records : {n : ℕ} {a : List ℕ} → Recorded (s .formulas ++ recs) n a → Recorded (next .formulas) n a
+  unfolding appended apply
+  next-records {n} {a} r = subst (λ (l : List Rec). Recorded (s .formulas ++ l) n a) (sym (rule-made F s x recs (expansion (s .formulas) f .rule))) r
+
+  next-nodes : {a : Sizes} {tb eb rb lb vb ob wb : List ℕ} → After a tb eb rb lb vb ob wb (apply F s x) (placing s q (apply F s x)) → Held (next .nodes) (a .nodes) tb
+  unfolding appended
+  next-nodes h = h .nodes
+
+  next-proved : next .proved ≡ s .proved
+  unfolding appended
+  next-proved = refl
+
+  stepped-laid : {a : Sizes} {n m : ℕ} {proved : Bool} {fb tb tc eb rb lb vb ob wb : List ℕ} → After a tb eb rb lb vb ob wb (apply F s x) (placing s q (apply F s x)) →
+      Recorded (next .formulas) n fb → m ≡ suc (s .steps) → Held (checkForContradictions F next .nodes) (a .nodes) tc → (a .nodes ≤ 512 → proved ≡ checkForContradictions F next .proved) → a .nodes ≤ 512 →
+      Laid (checkForContradictions F next) (record { formulas = n; nodes = a .nodes; worlds = a .worlds; necessities = a .necessities; waiting = a .waiting; steps = m; proved = proved }) fb tc eb rb lb vb ob wb
+  unfolding appended
+  stepped-laid {a} {n} {fb = fb} {eb = eb} {rb} {lb} {vb} {ob} {wb} h r e nodes proved small =
+      let same = checked-alike F next in
+      let k = held-ok nodes small in
+      let rest = h .rest small in
+      record {
+        formulas = subst (λ (l : List Rec). Recorded l n fb) (same .formulas) r;
+        room = omega (arith, k .0, small);
+        count = k .0;
+        nodes = k .1;
+        graph = subst (λ (g : Graph). Drawn g (a .worlds) eb) (same .graph) (rest .graph);
+        necessities = subst (λ (l : List Necessity). Stack l (a .necessities) ob rb lb vb) (same .necessities) (rest .necessities);
+        waiting = subst (λ (l : List ℕ). Listed l (a .waiting) wb) (same .waiting) (rest .waiting);
+        proved = proved small;
+        steps = e ∙ same .steps;
+      }
+
+  stepped-kept : {a : Sizes} {n m : ℕ} {proved : Bool} {fb tb tc eb rb lb vb ob wb : List ℕ} → After a tb eb rb lb vb ob wb (apply F s x) (placing s q (apply F s x)) →
+      Recorded (next .formulas) n fb → m ≡ suc (s .steps) → Held (checkForContradictions F next .nodes) (a .nodes) tc → (a .nodes ≤ 512 → proved ≡ checkForContradictions F next .proved) →
+      Kept (checkForContradictions F next) (record { formulas = n; nodes = a .nodes; worlds = a .worlds; necessities = a .necessities; waiting = a .waiting; steps = m; proved = proved }) fb tc eb rb lb vb ob wb
+  stepped-kept {a} {n} {m} {proved} {fb} {tb} {tc} {eb} {rb} {lb} {vb} {ob} {wb} h r e nodes told = go (leb (a .nodes) 512) refl
+    where
+      go : (b : Bool) → leb (a .nodes) 512 ≡ b →
+          Kept (checkForContradictions F next) (record { formulas = n; nodes = a .nodes; worlds = a .worlds; necessities = a .necessities; waiting = a .waiting; steps = m; proved = proved }) fb tc eb rb lb vb ob wb
+      go true t = kept (stepped-laid h r e nodes told (leb-true (a .nodes) 512 t))
+      go false t = full (leb-false (a .nodes) 512 t) (held-over nodes (leb-false (a .nodes) 512 t))
+
+  step-is : D.pop (s .formulas) (s .nodes) (s .waiting) ≡ some taken → checkForContradictions F next ≡ step F s
+  unfolding step stepBy
+  step-is e = sym (ap (stepBy F s) e)
+
+  pub stepped : (k : ℕ) → Fit F k s → stops s ≡ false → D.pop (s .formulas) (s .nodes) (s .waiting) ≡ some taken →
+      {p : Progress} {fa ta ea ra la va oa wa : List ℕ} → Laid s p fa ta ea ra la va oa wa →
+      {e : Expanded} {fb : List ℕ} → Expands (s .formulas) (expansion (s .formulas) f) e fb →
+      {a : Sizes} {tb eb rb lb vb ob wb : List ℕ} → After a tb eb rb lb vb ob wb (applyRule F s x recs (consequenceOf (e .rule))) (placing s q (applyRule F s x recs (consequenceOf (e .rule)))) →
+      {m : ℕ} → (p .steps < 512 → m ≡ suc (p .steps)) →
+      {proved : Bool} {tc : List ℕ} →
+      ((z : State) → p .proved ≡ z .proved → Recorded (z .formulas) (e .formulas) fb → e .formulas ≤ 1280 → Held (z .nodes) (a .nodes) tb → (a .nodes ≤ 512 → length (leaves (z .nodes)) ≤ 512) →
+      Held (checkForContradictions F z .nodes) (a .nodes) tc × (a .nodes ≤ 512 → proved ≡ checkForContradictions F z .proved)) →
+      Kept (step F s) (record { formulas = e .formulas; nodes = a .nodes; worlds = a .worlds; necessities = a .necessities; waiting = a .waiting; steps = m; proved = proved }) fb tc eb rb lb vb ob wb
+  unfolding Counted
+  stepped k fit st o {p} l {e} {fb} ex {a} {tb} {eb} {rb} {lb} {vb} {ob} {wb} af {m} count {proved} {tc} check =
+      let r = ready F k s fit st in
+      let small = formulas-fit (r .formulas) (ex .records) in
+      let h = next-after small ex af in
+      let rec = next-records (ex .records) in
+      let nodes = next-nodes h in
+      let c = check next (l .proved ∙ sym next-proved) rec small nodes (λ fits. appended-leaves F s taken (r .treed) (omega (arith, held-ok nodes fits .0, fits))) in
+      let low : p .steps < 512 = omega (arith, l .steps, fit .bounded .counted, r .nodes, waits) in
+      subst (λ (z : State). Kept z (record { formulas = e .formulas; nodes = a .nodes; worlds = a .worlds; necessities = a .necessities; waiting = a .waiting; steps = m; proved = proved }) fb tc eb rb lb vb ob wb) (step-is o)
+      (stepped-kept h rec (count low ∙ ap suc (l .steps)) (c .0) (c .1))
+    where
+      filled : (xs : List ℕ) → empty xs ≡ false → 0 < length xs
+      filled [] d = true-false d
+      filled (y ∷ ys) d = omega arith
+
+      waits : 0 < length (s .waiting)
+      waits = filled (s .waiting) (waiting-some s st)

@@ -1,0 +1,273 @@
+// The run: a step, and the steps until none is due.
+use contradictions::check_for_contradictions;
+use graph::NormalModalLogic;
+use logic::Sizes;
+use logic::apply_necessity;
+use logic::apply_possibility;
+use queue::Popped;
+use queue::pop;
+use rules::Consequence;
+use rules::apply_here;
+use rules::expand;
+use subtree::ProofSubtree;
+use subtree::append_subtree;
+use tree::ProofTreeNodeID;
+use tree::formula_of;
+ghost use mathlib.Core.Path.{_≡_};
+ghost use mathlib.Core.Bool.{Bool, false};
+ghost use mathlib.Core.List.{List};
+ghost use Prim.Native.Nat.{ℕ, suc, _<_, _≤_};
+ghost use lib.ListN.{length};
+ghost use Rattle.definition.specs.Lists.{all};
+ghost use Rattle.definition.specs.Records.{Rec};
+ghost use Rattle.definition.specs.Flags.{Flags};
+ghost use Rattle.definition.specs.Tree.{Node, nodeAt, leaves};
+ghost use Rattle.definition.specs.Rules.{expansion};
+ghost use Rattle.definition.specs.Contradiction.{pairs, markAll, isPair};
+ghost use Rattle.definition.specs.Run.{State, applyHere, applyPossibility, applyNecessity, applyRule, checkForContradictions, step, stops, run};
+ghost use Rattle.definition.proofs.Ready.{Fit};
+ghost use Rattle.formula.specs.Recorded.{Recorded};
+ghost use Rattle.graph.specs.Logic.{logicOf};
+ghost use Rattle.tree.specs.Lay.{Held};
+ghost use Rattle.rules.specs.Consequences.{consequenceOf};
+ghost use Rattle.rules.specs.Here.{hereOf};
+ghost use Rattle.logic.specs.Sizes.{Before, After, placing};
+ghost use Rattle.proof.specs.Kept.{Flagged, Laid, Kept};
+
+// The counts of a run, and whether it has proved. More than 512 nodes: full.
+pub struct Progress {
+    pub formulas: usize,
+    pub nodes: usize,
+    pub worlds: usize,
+    pub necessities: usize,
+    pub waiting: usize,
+    pub steps: usize,
+    pub proved: bool,
+}
+
+// No step is due.
+pub fn stops(p: Progress) -> bool
+    ensures { λ r. ⌜ ((s : State) (formulas tree edges rows leaves visited order wait : List ℕ) → Kept s p formulas tree edges rows leaves visited order wait → r ≡ stops s) ⌝ }
+{
+    if 512 < p.nodes {
+        return true;
+    }
+    if p.proved {
+        return true;
+    }
+    if p.waiting == 0 {
+        return true;
+    }
+    25 <= p.worlds
+}
+
+// The rule's nodes at its own world, placed.
+fn append_here(
+    p: Sizes,
+    x: ProofTreeNodeID,
+    rule: Consequence,
+    tree: &mut [u16; 4608],
+    wait: &mut [u16; 512],
+) -> Sizes
+    ensures { λ r. ⌜ ((s : State) (more : List Rec) (q ea ra la va oa : List ℕ) → Before p (now (tree .entry)) ea ra la va oa (now (wait .entry)) s q
+        → After r (now (tree .exit)) ea ra la va oa (now (wait .exit)) (applyHere s (x .0) more (hereOf (consequenceOf rule))) (placing s q (applyHere s (x .0) more (hereOf (consequenceOf rule))))) ⌝ }
+{
+    let h = apply_here(tree, p.nodes, x, rule);
+    let left = h.left;
+    let middle = h.middle;
+    let right = h.right;
+    let t = ProofSubtree {
+        left,
+        middle,
+        right,
+    };
+    let placed = append_subtree(tree, h.nodes, x, t, wait, p.waiting);
+    Sizes {
+        nodes: placed.nodes,
+        waiting: placed.waiting,
+        worlds: p.worlds,
+        necessities: p.necessities,
+    }
+}
+
+// The rule of node x, by its consequence.
+fn apply(
+    logic: NormalModalLogic,
+    p: Sizes,
+    x: ProofTreeNodeID,
+    rule: Consequence,
+    tree: &mut [u16; 4608],
+    edges: &mut [u8; 625],
+    rows: &mut [u16; 1536],
+    leaves: &mut [u32; 8192],
+    visited: &mut [u32; 8192],
+    order: &mut [u16; 512],
+    wait: &mut [u16; 512],
+) -> Sizes
+    ensures { λ r. ⌜ ((F : Flags) (s : State) (more : List Rec) (q : List ℕ) → logic ≡ logicOf F
+        → Before p (now (tree .entry)) (now (edges .entry)) (now (rows .entry)) (now (leaves .entry)) (now (visited .entry)) (now (order .entry)) (now (wait .entry)) s q
+        → After r (now (tree .exit)) (now (edges .exit)) (now (rows .exit)) (now (leaves .exit)) (now (visited .exit)) (now (order .exit)) (now (wait .exit)) (applyRule F s (x .0) more (consequenceOf rule)) (placing s q (applyRule F s (x .0) more (consequenceOf rule)))) ⌝ }
+{
+    match rule {
+        Consequence::AsPossible(f) => apply_possibility(
+            logic,
+            p,
+            x,
+            f,
+            tree,
+            edges,
+            rows,
+            leaves,
+            visited,
+            order,
+            wait,
+        ),
+        Consequence::AsNecessary(f) => apply_necessity(
+            logic,
+            p,
+            x,
+            f,
+            tree,
+            edges,
+            rows,
+            leaves,
+            visited,
+            order,
+            wait,
+        ),
+        Consequence::Nothing => append_here(p, x, rule, tree, wait),
+        Consequence::Down1(_) => append_here(p, x, rule, tree, wait),
+        Consequence::Down2(_, _) => append_here(p, x, rule, tree, wait),
+        Consequence::Split1(_, _) => append_here(p, x, rule, tree, wait),
+        Consequence::Split2(_, _, _, _) => append_here(p, x, rule, tree, wait),
+    }
+}
+
+// The count after one step more.
+fn next_step(steps: usize) -> usize
+    ensures { λ r. ⌜ (steps < 512 → r ≡ suc steps) ⌝ }
+{
+    if 512 <= steps {
+        return 513;
+    }
+    steps + 1
+}
+
+// The contradictions of the tree after a rule, unless they are skipped; whether the run has proved.
+fn check(
+    skip: bool,
+    proved: bool,
+    formulas: &[u16; 5120],
+    count: usize,
+    tree: &mut [u16; 4608],
+    len: usize,
+) -> bool
+    ensures { λ r. ⌜ ((F : Flags) (s : State) → skip ≡ F .skip → proved ≡ s .proved → Recorded (s .formulas) count (now (formulas .entry)) → count ≤ 1280 → Held (s .nodes) len (now (tree .entry)) → (len ≤ 512 → length (leaves (s .nodes)) ≤ 512)
+        → Held (checkForContradictions F s .nodes) len (now (tree .exit)) × (len ≤ 512 → r ≡ checkForContradictions F s .proved)) ⌝ }
+{
+    if skip {
+        return proved;
+    }
+    let every = check_for_contradictions(formulas, count, tree, len);
+    if proved {
+        return true;
+    }
+    every
+}
+
+// One step, where one is due.
+pub fn step(
+    logic: NormalModalLogic,
+    skip: bool,
+    p: Progress,
+    formulas: &mut [u16; 5120],
+    tree: &mut [u16; 4608],
+    edges: &mut [u8; 625],
+    rows: &mut [u16; 1536],
+    leaves: &mut [u32; 8192],
+    visited: &mut [u32; 8192],
+    order: &mut [u16; 512],
+    wait: &mut [u16; 512],
+) -> Progress
+    ensures { λ r. ⌜ ((F : Flags) (k : ℕ) (s : State) → Flagged F logic skip → Fit F k s → stops s ≡ false
+        → Kept s p (now (formulas .entry)) (now (tree .entry)) (now (edges .entry)) (now (rows .entry)) (now (leaves .entry)) (now (visited .entry)) (now (order .entry)) (now (wait .entry))
+        → Kept (step F s) r (now (formulas .exit)) (now (tree .exit)) (now (edges .exit)) (now (rows .exit)) (now (leaves .exit)) (now (visited .exit)) (now (order .exit)) (now (wait .exit))) ⌝ }
+{
+    match pop(formulas, p.formulas, tree, wait, p.waiting) {
+        Popped::None => p,
+        Popped::Node { id, waiting } => {
+            let e = expand(formulas, p.formulas, formula_of(tree, id));
+            let rule = e.rule;
+            let sizes = Sizes {
+                nodes: p.nodes,
+                waiting,
+                worlds: p.worlds,
+                necessities: p.necessities,
+            };
+            let a = apply(
+                logic,
+                sizes,
+                id,
+                rule,
+                tree,
+                edges,
+                rows,
+                leaves,
+                visited,
+                order,
+                wait,
+            );
+            Progress {
+                formulas: e.formulas,
+                nodes: a.nodes,
+                worlds: a.worlds,
+                necessities: a.necessities,
+                waiting: a.waiting,
+                steps: next_step(p.steps),
+                proved: check(skip, p.proved, formulas, e.formulas, tree, a.nodes),
+            }
+        }
+    }
+}
+
+// The steps until none is due.
+pub fn prove(
+    logic: NormalModalLogic,
+    skip: bool,
+    begun: Progress,
+    formulas: &mut [u16; 5120],
+    tree: &mut [u16; 4608],
+    edges: &mut [u8; 625],
+    rows: &mut [u16; 1536],
+    leaves: &mut [u32; 8192],
+    visited: &mut [u32; 8192],
+    order: &mut [u16; 512],
+    wait: &mut [u16; 512],
+) -> Progress
+    ensures { λ r. ⌜ ((F : Flags) (k : ℕ) (s : State) → Flagged F logic skip → Fit F k s
+        → Kept s begun (now (formulas .entry)) (now (tree .entry)) (now (edges .entry)) (now (rows .entry)) (now (leaves .entry)) (now (visited .entry)) (now (order .entry)) (now (wait .entry))
+        → Kept (run 513 F s) r (now (formulas .exit)) (now (tree .exit)) (now (edges .exit)) (now (rows .exit)) (now (leaves .exit)) (now (visited .exit)) (now (order .exit)) (now (wait .exit))) ⌝ }
+{
+    let mut p = begun;
+    let mut n: usize = 0;
+    while n < 513 {
+        if stops(p) {
+            return p;
+        }
+        p = step(
+            logic,
+            skip,
+            p,
+            formulas,
+            tree,
+            edges,
+            rows,
+            leaves,
+            visited,
+            order,
+            wait,
+        );
+        n += 1;
+    }
+    p
+}
