@@ -1,4 +1,5 @@
 // A set of numbers below 262,144, one bit each, in an array of 8,192 words.
+// Of a call whose arrays lay out nothing of the kind that its contract names: it ends and stays in bounds; its outcome is free.
 ghost use mathlib.Core.Path.{_≡_};
 ghost use mathlib.Core.Bool.{Bool, not, _&&_, _||_};
 ghost use Prim.Native.Nat.{ℕ, _/_, _%_, _<_};

@@ -1,4 +1,5 @@
 // Contradictions of the paths: path.rs's get_contradictory_node_ids and tree.rs's check_for_contradictions.
+// Of a call whose arrays lay out nothing of the kind that its contract names: it ends and stays in bounds; its outcome is free.
 use arrays::nth;
 use arrays::push;
 use semantics::are_formulas_contradictory;

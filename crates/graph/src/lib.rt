@@ -1,4 +1,5 @@
 // The world graph.
+// Of a call whose arrays lay out nothing of the kind that its contract names: it ends and stays in bounds; its outcome is free.
 pub mod missing_vertices;
 pub mod vertices;
 

@@ -1,4 +1,5 @@
 // What necessities give, path by path, and the rules that act as Possible or Necessary.
+// Of a call whose arrays lay out nothing of the kind that its contract names: it ends and stays in bounds; its outcome is free.
 use arrays::nth;
 use formula::FormulaNumber;
 use graph::NormalModalLogic;

@@ -1,4 +1,5 @@
 // Necessities: what is stored of them, on which paths they are given again, and what they give there.
+// Of a call whose arrays lay out nothing of the kind that its contract names: it ends and stays in bounds; its outcome is free.
 use arrays::nth;
 use arrays::push;
 use formula::FormulaNumber;

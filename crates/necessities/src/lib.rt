@@ -1,4 +1,5 @@
 // The stack of stored necessities: rows of numbers and bits, and the rows' order from the bottom to the top.
+// Of a call whose arrays lay out nothing of the kind that its contract names: it ends and stays in bounds; its outcome is free.
 use arrays::nth;
 use arrays::push;
 use bits::clear_row;

@@ -1,4 +1,5 @@
 // The run: a step, and the steps until none is due.
+// Of a call whose arrays lay out nothing of the kind that its contract names: it ends and stays in bounds; its outcome is free.
 use contradictions::check_for_contradictions;
 use graph::NormalModalLogic;
 use logic::Sizes;

@@ -1,4 +1,5 @@
 // The rule of a formula: which it is, the records that it makes, and the nodes at the formula's own world.
+// Of a call whose arrays lay out nothing of the kind that its contract names: it ends and stays in bounds; its outcome is free.
 use formula::FormulaNumber;
 use graph::PossibleWorld;
 use tree::Chain;

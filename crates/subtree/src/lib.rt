@@ -1,4 +1,5 @@
 // Subtrees: copied, appended below the leaves that take them, and queued.
+// Of a call whose arrays lay out nothing of the kind that its contract names: it ends and stays in bounds; its outcome is free.
 use arrays::nth;
 use arrays::push;
 use tree::Chain;

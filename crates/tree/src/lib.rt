@@ -1,4 +1,5 @@
 // The nodes of the proof tree, nine numbers to a node, in one lent array; paths and their leaves.
+// Of a call whose arrays lay out nothing of the kind that its contract names: it ends and stays in bounds; its outcome is free.
 use arrays::push;
 use formula::FormulaNumber;
 use graph::PossibleWorld;
