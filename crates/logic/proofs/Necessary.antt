@@ -28,7 +28,7 @@ use Rattle.subtree.proofs.Rows.{rows-more}
 use Rattle.logic.specs.declared.Given.{Given}
 use Rattle.logic.specs.declared.Sizes.{Sizes}
 use Rattle.logic.specs.Gave.{Listing, Gave}
-use Rattle.logic.specs.Sizes.{Before, After, placing}
+use Rattle.logic.specs.Sizes.{Before, After, placing, necessityOf}
 use Rattle.logic.proofs.Reapply.{filter-few}
 use Rattle.logic.proofs.Forked.{left-as}
 
@@ -40,24 +40,25 @@ given-placed ns q more small h l list rest =
     let e = held-ok h small .0 in
     left-as (ap (λ (rs : List Targeted). appendLogicRuleResult ns q rs) (put .are)) (rest ns q (put .all) h (λ _. l) (λ _. rows-more (omega (arith, e)) (put .rows)))
 
-module _ (F : Flags) (s : State) (x : ℕ) (recs : List Rec) (f : ℕ) (q : List ℕ) where
-  abbrev pub graph : Graph
-  graph = initializeGraphIfNeeded F (s .graph)
-
-  abbrev pub through : List ℕ
+module _ (s : State) (x f : ℕ) where
+  abbrev through : List ℕ
   through = filter (λ leaf. elem x (path (s .nodes) leaf)) (leaves (s .nodes))
 
-  abbrev pub necessity : Necessity
-  necessity = fresh f (nodeAt (s .nodes) x .world) x through
-
-  pub fresh-as : {w : ℕ} {c : ℕ} {oa ra la va : List ℕ} → w ≡ nodeAt (s .nodes) x .world → Stack (fresh f w x through ∷ s .necessities) c oa ra la va → Stack (necessity ∷ s .necessities) c oa ra la va
+  pub fresh-as : {w c : ℕ} {oa ra la va : List ℕ} → w ≡ nodeAt (s .nodes) x .world → Stack (fresh f w x through ∷ s .necessities) c oa ra la va → Stack (necessityOf s x f ∷ s .necessities) c oa ra la va
   fresh-as {c = c} {oa} {ra} {la} {va} e h = subst (λ (v : ℕ). Stack (fresh f v x through ∷ s .necessities) c oa ra la va) e h
 
-  pub through-fits : {p : Sizes} {ta ea ra la va oa wa : List ℕ} → Before p ta ea ra la va oa wa s q → {m : ℕ} {a : List ℕ} → Listed through m a → (m ≤ 512) × Each (λ y. y < 512) through
+  pub through-fits : {q : List ℕ} {p : Sizes} {ta ea ra la va oa wa : List ℕ} → Before p ta ea ra la va oa wa s q → {m : ℕ} {a : List ℕ} → Listed through m a → (m ≤ 512) × Each (λ y. y < 512) through
   through-fits b l = (
     listed-fits l (omega (arith, filter-few (λ leaf. elem x (path (s .nodes) leaf)) (leaves (s .nodes)), leaves-few (s .nodes) (b .treed), b .fits)),
     each-map (λ y (h : y < length (s .nodes)). omega (arith, h, b .fits)) through (filter-keeps (λ y. y < length (s .nodes)) (λ leaf. elem x (path (s .nodes) leaf)) (leaves (s .nodes)) (leaves-within (s .nodes) (b .treed))),
   )
+
+module _ (F : Flags) (s : State) (x : ℕ) (recs : List Rec) (f : ℕ) (q : List ℕ) where
+  abbrev graph : Graph
+  graph = initializeGraphIfNeeded F (s .graph)
+
+  abbrev necessity : Necessity
+  necessity = necessityOf s x f
 
   pub necessity-after : {made : Given} {r : Counts} {c k worlds : ℕ} {ta tb ea ra la va oa wa wb ia : List ℕ} →
       Gave (s .nodes ++ []) [] (reapplyNecessity (s .nodes) graph none (length (s .nodes ++ [])) necessity) made ta ia →

@@ -3,18 +3,25 @@ use Prim.Native.Nat.{ℕ, _≤_, _<_}
 use mathlib.Core.Path.{_≡_}
 use mathlib.Core.List.{List, _++_}
 use lib.ListN.{length}
+use Rattle.definition.specs.Lists.{elem, filter}
+use Rattle.definition.specs.Tree.{nodeAt, leaves, path}
+use Rattle.definition.specs.Modality.{Necessity}
 use Rattle.definition.specs.Run.{State, LogicRuleResult}
 use Rattle.definition.specs.Subtree.{Placed, appendLogicRuleResult}
 use Rattle.definition.proofs.Treed.{Treed}
 use Rattle.arrays.specs.Listed.{Listed}
 use Rattle.graph.specs.Drawn.{Drawn}
 use Rattle.tree.specs.Lay.{lay, Held}
-use Rattle.necessities.specs.Stack.{Stack}
+use Rattle.necessities.specs.Stack.{Stack, fresh}
 use Rattle.logic.specs.declared.Sizes.{Sizes}
 
 -- the result placed on the tree, and queued
 abbrev pub placing : State → List ℕ → LogicRuleResult → Placed
 placing s q r = appendLogicRuleResult (s .nodes ++ r .nodes) q (r .subtrees)
+
+-- the necessity that node x stores, with its path leaves
+abbrev pub necessityOf : State → ℕ → ℕ → Necessity
+necessityOf s x f = fresh f (nodeAt (s .nodes) x .world) x (filter (λ leaf. elem x (path (s .nodes) leaf)) (leaves (s .nodes)))
 
 -- the arrays: tree, edges, rows, leaves, visited, order, waiting
 module _ (p : Sizes) (ta ea ra la va oa wa : List ℕ) where

@@ -54,7 +54,7 @@ ghost use Rattle.subtree.specs.Rows as subtrees;
 ghost use Rattle.subtree.specs.Subtree.{subtreeOf, Within, Left};
 ghost use Rattle.modality.specs.Forking.{forkOf};
 ghost use Rattle.logic.specs.Gave.{Listing, Gave};
-ghost use Rattle.logic.specs.Sizes.{Before, After, placing};
+ghost use Rattle.logic.specs.Sizes.{Before, After, placing, necessityOf};
 
 // The count of nodes, and that of the rows of subtrees.
 pub struct Given {
@@ -331,6 +331,40 @@ fn place_given(
     append_logic_rule_result(tree, made.nodes, items, made.items, wait, n)
 }
 
+// Stores the necessity of node x, with the leaves of its paths. The count of those that are stored.
+fn store_necessity(
+    p: Sizes,
+    x: ProofTreeNodeID,
+    f: FormulaNumber,
+    tree: &[u16; 4608],
+    all: &[u16; 512],
+    m: usize,
+    rows: &mut [u16; 1536],
+    leafs: &mut [u32; 8192],
+    visited: &mut [u32; 8192],
+    order: &mut [u16; 512],
+) -> usize
+    ensures { λ r. ⌜ ((s : State) (q ea wa : List ℕ) → Before p (now (tree .entry)) ea (now (rows .entry)) (now (leafs .entry)) (now (visited .entry)) (now (order .entry)) wa s q
+        → Listed (leaves (s .nodes)) m (now (all .entry)) → m ≤ 512
+        → Stack (necessityOf s (x .0) (f .0) ∷ s .necessities) r (now (order .exit)) (now (rows .exit)) (now (leafs .exit)) (now (visited .exit))) ⌝ }
+{
+    let mut stored = [0u16; 512];
+    let n = leaves_through(tree, p.nodes, x, all, m, &mut stored, 0);
+    let w = world_of(tree, x);
+    store(
+        order,
+        p.necessities,
+        rows,
+        leafs,
+        visited,
+        f,
+        w,
+        x,
+        &stored,
+        n,
+    )
+}
+
 // Gives a node for each world that is reached, path by path, and stores the necessity with the leaves of its paths.
 pub fn apply_necessity(
     logic: NormalModalLogic,
@@ -352,21 +386,7 @@ pub fn apply_necessity(
     let worlds = initialize_graph_if_needed(edges, p.worlds, logic);
     let mut all = [0u16; 512];
     let m = leaves_below(tree, ProofTreeNodeID(0), p.nodes, &mut all, 0);
-    let mut stored = [0u16; 512];
-    let n = leaves_through(tree, p.nodes, x, &all, m, &mut stored, 0);
-    let w = world_of(tree, x);
-    let c = store(
-        order,
-        p.necessities,
-        rows,
-        leafs,
-        visited,
-        f,
-        w,
-        x,
-        &stored,
-        n,
-    );
+    let c = store_necessity(p, x, f, tree, &all, m, rows, leafs, visited, order);
     let k = row_at(order, c, 0);
     let mut on = [0u16; 512];
     let own = leaves_of(tree, p.nodes, leafs, k, &all, m, &mut on, 0);

@@ -5,10 +5,11 @@ use native.Mathlib.Omega.{arith}
 use Rattle.arrays.proofs.Listed.{listed-none}
 use Rattle.tree.proofs.Nodes.{held-as}
 use Rattle.necessities.proofs.Stacks.{stack-row, stack-count}
+use Rattle.logic.specs.Sizes.{necessityOf}
 use Rattle.logic.proofs.Reapply.{row-as, stands, paths-fit}
 use Rattle.logic.proofs.Again.{blank}
 use Rattle.logic.proofs.Forked.{listing-start, before-held, before-leaves}
-use Rattle.logic.proofs.Necessary.{necessity, fresh-as, through-fits, necessity-after}
+use Rattle.logic.proofs.Necessary.{necessity-after}
 use borrow.Author.Needs.{needs}
 use Rattle.logic.proofs.apply_necessity.Statement.{statement}
 use Rattle.logic.proofs.apply_necessity.Tie as tie
@@ -19,14 +20,8 @@ initialize-graph-if-needed-requires c κs = search needs
 leaves-below-requires : tie.Need-leaves-below-requires
 leaves-below-requires c κs = search needs
 
-leaves-through-requires : tie.Need-leaves-through-requires
-leaves-through-requires c κs = search needs
-
-world-of-requires : tie.Need-world-of-requires
-world-of-requires c κs = search needs
-
-store-requires : tie.Need-store-requires
-store-requires c κs = search needs
+store-necessity-requires : tie.Need-store-necessity-requires
+store-necessity-requires c κs = search needs
 
 row-at-requires : tie.Need-row-at-requires
 row-at-requires c κs = search needs
@@ -43,17 +38,15 @@ place-given-requires c κs = search needs
 returns : tie.Need-returns
 returns c = λ F s recs q log b.
     let t = s .nodes in
-    let x = c .before .before .before .before .before .before .before .before .before .before .before .before .before .before .before .before .before .before .before .before .before .before .before .before .before .before .before .before .before .before .before .before .before .before .before .args .x .0 in
-    let f = c .before .before .before .before .before .before .before .before .before .before .before .before .before .before .before .before .before .before .before .before .before .before .before .before .before .before .before .before .before .before .before .before .before .before .before .args .f .0 in
-    let n = necessity F s x recs f q in
-    let drawn = c .before .before .before .before .before .before .before .before .before .before .before .before .before .before .before .before .before .before .before .before .before .before .before .before .before .before .before .before .before .before .before .before .before .initialize-graph-if-needed .ensures F (s .graph) log (b .graph) in
-    let lv = before-leaves b (c .before .before .before .before .before .before .before .before .before .before .before .before .before .before .before .before .before .before .before .before .before .before .before .before .before .before .before .before .before .before .leaves-below .ensures t [] (b .fits) (b .laid) listed-none) in
+    let x = c .before .before .before .before .before .before .before .before .before .before .before .before .before .before .before .before .before .before .before .before .before .before .before .before .before .before .before .before .before .before .args .x .0 in
+    let f = c .before .before .before .before .before .before .before .before .before .before .before .before .before .before .before .before .before .before .before .before .before .before .before .before .before .before .before .before .before .before .args .f .0 in
+    let n = necessityOf s x f in
+    let drawn = c .before .before .before .before .before .before .before .before .before .before .before .before .before .before .before .before .before .before .before .before .before .before .before .before .before .before .before .before .initialize-graph-if-needed .ensures F (s .graph) log (b .graph) in
+    let lv = before-leaves b (c .before .before .before .before .before .before .before .before .before .before .before .before .before .before .before .before .before .before .before .before .before .before .before .before .before .leaves-below .ensures t [] (b .fits) (b .laid) listed-none) in
     let h = held-as (t ++ []) (sym (append-nil t)) (before-held b) in
     let z = stands t [] (b .count) h (omega (arith, b .fits, b .count)) in
-    let th = c .before .before .before .before .before .before .before .before .before .before .before .before .before .before .before .before .before .before .before .before .before .before .before .before .before .before .leaves-through .ensures t [] z (lv .0) (lv .1) listed-none in
-    let tf = through-fits F s x recs f q b th in
-    let st = fresh-as F s x recs f q (c .before .before .before .before .before .before .before .before .before .before .before .before .before .before .before .before .before .before .before .before .before .before .before .before .world-of .ensures t (b .fits) (b .laid)) (c .before .before .before .before .before .before .before .before .before .before .before .before .before .before .before .before .before .before .store .ensures (s .necessities) _ (b .necessities) (b .room) th (tf .0) (tf .1)) in
-    let one : 0 < c .before .before .before .before .before .before .before .before .before .before .before .before .before .before .before .before .before .before .store .result = omega (arith, stack-count st) in
+    let st = c .before .before .before .before .before .before .before .before .before .before .before .before .before .before .before .before .before .before .store-necessity .ensures s q _ _ b (lv .0) (lv .1) in
+    let one : 0 < c .before .before .before .before .before .before .before .before .before .before .before .before .before .before .before .before .before .before .store-necessity .result = omega (arith, stack-count st) in
     let k = c .before .before .before .before .before .before .before .before .before .before .before .before .before .before .before .before .row-at .ensures _ _ _ _ st one in
     let row = row-as (sym k) (stack-row st blank 0 one) in
     let on = c .before .before .before .before .before .before .before .before .before .before .before .leaves-of .ensures t n [] z (row .leaves) (lv .0) (lv .1) listed-none in
@@ -66,9 +59,7 @@ apply-necessity-spec =
     (tie.spec
     initialize-graph-if-needed-requires
     leaves-below-requires
-    leaves-through-requires
-    world-of-requires
-    store-requires
+    store-necessity-requires
     row-at-requires
     leaves-of-requires
     reapply-necessity-requires
