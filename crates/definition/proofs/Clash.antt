@@ -1,5 +1,5 @@
 -- Nodes whose formulas are true do not contradict one another.
-use mathlib.Core.Path.{_≡_, refl, sym, ap, _∙_, subst}
+use mathlib.Core.Path.{_≡_, refl, sym, _∙_, subst}
 use mathlib.Core.Bool.{Bool, true, false, not, _&&_, Bool·beq}
 use mathlib.Core.List.{List, [], _∷_, reverse}
 use mathlib.Core.Option.{none}
@@ -8,14 +8,15 @@ use Prim.Native.Nat.{ℕ, _<_}
 use native.Mathlib.Omega.{arith}
 use lib.Dec.{eqb}
 use borrow.Author.Tests.{eqb-true, not-false}
-use lib.ListN.{length, getD, take}
+use lib.ListN.{length, take}
 use Rattle.definition.specs.Lists.{Each, find, same}
-use Rattle.definition.specs.Records.{nobody, isNobody, Kind, Atomic, Non, And, Or, Imply, BiImply, StrictImply, Possible, Necessary, Unknown, Comment, Rec, numberOf, is, arity, links, made, recAt, formulaOf}
+use Rattle.definition.specs.Records.{nobody, isNobody, Kind, Atomic, Non, BiImply, Comment, Rec, numberOf, is, arity, links, made, recAt, formulaOf}
 use Rattle.definition.specs.Formula.{atom, formBy, written, formAt}
 use Rattle.definition.specs.Models.{Model, truth}
 use Rattle.definition.specs.Tree.{Node, nodeAt}
 use Rattle.definition.specs.Contradiction.{both, inner, atomOf, atomsOf, said, denied, opposed, areFormulasContradictory, areNodesContradictory, getContradictoryNodeIds}
 use Rattle.definition.proofs.Lists.{true-false, and-left, and-right, not-true, either, cond-both, each-map, each-reverse}
+use Rattle.definition.proofs.Records.{same-kind}
 use Rattle.definition.proofs.Forms.{WellFormed, form-at}
 use Rattle.definition.proofs.Priest.{Holds}
 
@@ -23,25 +24,8 @@ use Rattle.definition.proofs.Priest.{Holds}
 abbrev pub Sat : Model → List Rec → ℕ → ℕ → Type 0
 Sat M rs w f = (f ≡ nobody) ⊎ Holds M rs w f
 
-abbrev kindBack : ℕ → Kind
-kindBack n = getD (Atomic ∷ Non ∷ And ∷ Or ∷ Imply ∷ BiImply ∷ StrictImply ∷ Possible ∷ Necessary ∷ Unknown ∷ []) n Comment
-
-kind-back : (k : Kind) → kindBack (numberOf k) ≡ k
-unfolding numberOf
-kind-back Atomic = refl
-kind-back Non = refl
-kind-back And = refl
-kind-back Or = refl
-kind-back Imply = refl
-kind-back BiImply = refl
-kind-back StrictImply = refl
-kind-back Possible = refl
-kind-back Necessary = refl
-kind-back Unknown = refl
-kind-back Comment = refl
-
 kind-is : (k : Kind) (r : Rec) → is k r ≡ true → r .kind ≡ k
-kind-is k r e = sym (kind-back (r .kind)) ∙ ap kindBack (eqb-true (numberOf (r .kind)) (numberOf k) e) ∙ kind-back k
+kind-is k r e = same-kind (r .kind) k (eqb-true (numberOf (r .kind)) (numberOf k) e)
 
 same-eq : (xs ys : List ℕ) → same xs ys ≡ true → xs ≡ ys
 same-eq [] [] e = refl

@@ -1,4 +1,5 @@
 pub mod Lists
+pub mod Records
 pub mod Nodes
 pub mod Issued
 pub mod Count

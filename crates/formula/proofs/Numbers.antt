@@ -1,7 +1,7 @@
 -- Kinds and their numbers.
 use Prim.Native.Nat.{ℕ, zero, suc, _<_, _≤_}
 use mathlib.Core.Path.{_≡_, refl, sym, ap, _∙_}
-use mathlib.Core.List.{List, [], _∷_, _++_}
+use mathlib.Core.List.{List, [], _∷_}
 use native.Mathlib.Omega.{arith}
 use mathlib.Core.Logic.{⊎-elim}
 use borrow.Author.Tests.{eq-eqb, ne-eqb}
@@ -16,28 +16,6 @@ use Rattle.formula.proofs.Recorded.{recorded-count, recAt-far}
 -- the kinds of the table
 abbrev kinds : List Kind
 kinds = Atomic ∷ Non ∷ And ∷ Or ∷ Imply ∷ BiImply ∷ StrictImply ∷ Possible ∷ Necessary ∷ []
-
--- the kind of a number, 9 and 10 with the others
-abbrev kindBack : ℕ → Kind
-kindBack n = getD (kinds ++ (Unknown ∷ [])) n Comment
-
-kind-back : (k : Kind) → kindBack (numberOf k) ≡ k
-unfolding numberOf
-kind-back Atomic = refl
-kind-back Non = refl
-kind-back And = refl
-kind-back Or = refl
-kind-back Imply = refl
-kind-back BiImply = refl
-kind-back StrictImply = refl
-kind-back Possible = refl
-kind-back Necessary = refl
-kind-back Unknown = refl
-kind-back Comment = refl
-
--- two kinds of one number are one kind
-pub same-kind : (k l : Kind) → numberOf k ≡ numberOf l → k ≡ l
-same-kind k l e = sym (kind-back k) ∙ ap kindBack e ∙ kind-back l
 
 -- ---- numbers of the table: a number above 8 is stored as 9
 pub known : (n : ℕ) → n ≤ 8 → n ≡ numberOf (kindOf n)

@@ -63,20 +63,7 @@ push-tree-node-sub-push-tree-node-2 : (t : ℕ) → push-tree-node-lts.Need-sub-
 push-tree-node-sub-push-tree-node-2 t c = omega (arith, pos-of-ne-zero (c .before .before .before .before .before .before .before .if1 .left))
 
 push-tree-node-push-tree-node-requires-2 :
-    (t : ℕ) → push-tree-node-lts.Need-push-tree-node-requires-2 (
-      is-none-reads.Asked,
-      is-none-reads.Learnt,
-      left-of-reads.Asked,
-      left-of-reads.Learnt,
-      push-tree-node-below t,
-      push-tree-node.Post,
-      middle-of-reads.Asked,
-      middle-of-reads.Learnt,
-      right-of-reads.Asked,
-      right-of-reads.Learnt,
-      push-reads.Asked,
-      push-reads.Learnt,
-    ) (push-tree-node-at t) push-tree-node.Post
+    (t : ℕ) → push-tree-node-lts.Need-push-tree-node-requires-2 (calls t) (push-tree-node-at t) push-tree-node.Post
 push-tree-node-push-tree-node-requires-2 t c κs = (omega (arith, c .before .before .before .before .before .before .before .before .pre .0, pos-of-ne-zero (c .before .before .before .before .before .before .before .if1 .left)), tt)
 
 push-tree-node-right-of-requires : (t : ℕ) → push-tree-node-lts.Need-right-of-requires (calls t) (push-tree-node-at t) push-tree-node.Post
@@ -86,20 +73,7 @@ push-tree-node-sub-push-tree-node-3 : (t : ℕ) → push-tree-node-lts.Need-sub-
 push-tree-node-sub-push-tree-node-3 t c = omega (arith, pos-of-ne-zero (c .before .before .before .before .before .before .before .before .before .before .if1 .left))
 
 push-tree-node-push-tree-node-requires-3 :
-    (t : ℕ) → push-tree-node-lts.Need-push-tree-node-requires-3 (
-      is-none-reads.Asked,
-      is-none-reads.Learnt,
-      left-of-reads.Asked,
-      left-of-reads.Learnt,
-      push-tree-node-below t,
-      push-tree-node.Post,
-      middle-of-reads.Asked,
-      middle-of-reads.Learnt,
-      right-of-reads.Asked,
-      right-of-reads.Learnt,
-      push-reads.Asked,
-      push-reads.Learnt,
-    ) (push-tree-node-at t) push-tree-node.Post
+    (t : ℕ) → push-tree-node-lts.Need-push-tree-node-requires-3 (calls t) (push-tree-node-at t) push-tree-node.Post
 push-tree-node-push-tree-node-requires-3 t c κs = (omega (arith, c .before .before .before .before .before .before .before .before .before .before .before .pre .0, pos-of-ne-zero (c .before .before .before .before .before .before .before .before .before .before .if1 .left)), tt)
 
 push-tree-node-push-requires : (t : ℕ) → push-tree-node-lts.Need-push-requires (calls t) (push-tree-node-at t) push-tree-node.Post
