@@ -99,6 +99,28 @@ checked-alike F s =
     checked-both (Alike s) F s (record { formulas = refl; graph = refl; necessities = refl; waiting = refl; steps = refl })
     (record { formulas = refl; graph = refl; necessities = refl; waiting = refl; steps = refl })
 
+pub laid-fits : {s : State} {p : Progress} {fa ta ea ra la va oa wa : List ℕ} → Laid s p fa ta ea ra la va oa wa → p .nodes ≤ 512
+laid-fits l = omega (arith, l .room, l .count)
+
+-- a state whose contradictions are checked, in arrays: its nodes and what is proved, and the rest as it was
+pub checked-laid : (F : Flags) (s : State) {p : Progress} {fa ta ea ra la va oa wa : List ℕ} →
+    Recorded (s .formulas) (p .formulas) fa → Drawn (s .graph) (p .worlds) ea → Stack (s .necessities) (p .necessities) oa ra la va → Listed (s .waiting) (p .waiting) wa → p .steps ≡ s .steps →
+    Held (checkForContradictions F s .nodes) (p .nodes) ta → p .proved ≡ checkForContradictions F s .proved → p .nodes ≤ 512 → Laid (checkForContradictions F s) p fa ta ea ra la va oa wa
+checked-laid F s {p} {fa} {ta} {ea} {ra} {la} {va} {oa} {wa} r g n w e nodes proved small =
+    let same = checked-alike F s in
+    let k = held-ok nodes small in
+    record {
+      formulas = subst (λ (l : List Rec). Recorded l (p .formulas) fa) (same .formulas) r;
+      room = omega (arith, k .0, small);
+      count = k .0;
+      nodes = k .1;
+      graph = subst (λ (x : Graph). Drawn x (p .worlds) ea) (same .graph) g;
+      necessities = subst (λ (l : List Necessity). Stack l (p .necessities) oa ra la va) (same .necessities) n;
+      waiting = subst (λ (l : List ℕ). Listed l (p .waiting) wa) (same .waiting) w;
+      proved = proved;
+      steps = e ∙ same .steps;
+    }
+
 -- the state before the rule
 pub laid-before : {n : ℕ} {s : State} {q : List ℕ} {p : Progress} {fa ta ea ra la va oa wa wb : List ℕ} → Ready s → Laid s p fa ta ea ra la va oa wa → Listed q n wb →
     Before (record { nodes = p .nodes; waiting = n; worlds = p .worlds; necessities = p .necessities }) ta ea ra la va oa wb s q
@@ -170,21 +192,7 @@ module _ (F : Flags) (s : State) (x : ℕ) (q : List ℕ) where
       Recorded (next .formulas) n fb → m ≡ suc (s .steps) → Held (checkForContradictions F next .nodes) (a .nodes) tc → (a .nodes ≤ 512 → proved ≡ checkForContradictions F next .proved) → a .nodes ≤ 512 →
       Laid (checkForContradictions F next) (record { formulas = n; nodes = a .nodes; worlds = a .worlds; necessities = a .necessities; waiting = a .waiting; steps = m; proved = proved }) fb tc eb rb lb vb ob wb
   unfolding appended
-  stepped-laid {a} {n} {fb = fb} {eb = eb} {rb} {lb} {vb} {ob} {wb} h r e nodes proved small =
-      let same = checked-alike F next in
-      let k = held-ok nodes small in
-      let rest = h .rest small in
-      record {
-        formulas = subst (λ (l : List Rec). Recorded l n fb) (same .formulas) r;
-        room = omega (arith, k .0, small);
-        count = k .0;
-        nodes = k .1;
-        graph = subst (λ (g : Graph). Drawn g (a .worlds) eb) (same .graph) (rest .graph);
-        necessities = subst (λ (l : List Necessity). Stack l (a .necessities) ob rb lb vb) (same .necessities) (rest .necessities);
-        waiting = subst (λ (l : List ℕ). Listed l (a .waiting) wb) (same .waiting) (rest .waiting);
-        proved = proved small;
-        steps = e ∙ same .steps;
-      }
+  stepped-laid h r e nodes proved small = let rest = h .rest small in checked-laid F next r (rest .graph) (rest .necessities) (rest .waiting) e nodes (proved small) small
 
   stepped-kept : {a : Sizes} {n m : ℕ} {proved : Bool} {fb tb tc eb rb lb vb ob wb : List ℕ} → After a tb eb rb lb vb ob wb (apply F s x) (placing s q (apply F s x)) →
       Recorded (next .formulas) n fb → m ≡ suc (s .steps) → Held (checkForContradictions F next .nodes) (a .nodes) tc → (a .nodes ≤ 512 → proved ≡ checkForContradictions F next .proved) →

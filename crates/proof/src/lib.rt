@@ -176,6 +176,24 @@ fn check(
     every
 }
 
+// The state before any step: contradictions are checked once, unless they are skipped.
+pub fn begin(skip: bool, p: Progress, formulas: &[u16; 5120], tree: &mut [u16; 4608]) -> Progress
+    ensures { λ r. ⌜ ((F : Flags) (s : State) (ea ra la va oa wa : List ℕ) → skip ≡ F .skip → p .formulas ≤ 1280 → length (leaves (s .nodes)) ≤ 512
+        → Laid s p (now (formulas .entry)) (now (tree .entry)) ea ra la va oa wa
+        → Kept (checkForContradictions F s) r (now (formulas .entry)) (now (tree .exit)) ea ra la va oa wa) ⌝ }
+{
+    let proved = check(skip, p.proved, formulas, p.formulas, tree, p.nodes);
+    Progress {
+        formulas: p.formulas,
+        nodes: p.nodes,
+        worlds: p.worlds,
+        necessities: p.necessities,
+        waiting: p.waiting,
+        steps: p.steps,
+        proved,
+    }
+}
+
 // One step, where one is due.
 pub fn step(
     logic: NormalModalLogic,

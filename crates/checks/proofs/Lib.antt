@@ -1,0 +1,3 @@
+pub mod Bytes
+pub mod Found
+pub mod Reading

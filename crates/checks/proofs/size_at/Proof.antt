@@ -1,0 +1,34 @@
+use mathlib.Core.Path.{sym, ap, _∙_}
+use mathlib.Core.List.{List}
+use Prim.Native.Nat.{ℕ}
+use native.Mathlib.Omega.{arith}
+use lib.ListN.{getD, List·getD-eq-default}
+use borrow.Author.Needs.{needs}
+use Rattle.arrays.proofs.Laws.{getD-pad}
+use Rattle.checks.proofs.size_at.Statement.{statement}
+use Rattle.checks.proofs.size_at.Tie as tie
+
+returns : tie.Need-returns
+returns c = (λ s q h. sym (List·getD-eq-default s 0 (omega (arith, c .if1 .taken))), search needs)
+
+mul-wide-size : tie.Need-mul-wide-size
+mul-wide-size c = search needs
+
+element-copy-out-wide-size : tie.Need-element-copy-out-wide-size
+element-copy-out-wide-size c = search needs
+
+wide-size-requires : tie.Need-wide-size-requires
+wide-size-requires c κs = search needs
+
+returns-2 : tie.Need-returns-2
+returns-2 c = (
+  λ s q h.
+      let l = c .before .before .before .args .l in
+      c .wide-size .ensures .0 ∙ ap (λ (a : List ℕ). getD a l 0) q ∙ getD-pad 256 s l,
+  c .wide-size .ensures .1,
+)
+
+pub size-at-spec : {M : Type 1} → statement M
+size-at-spec =
+    tie.close
+    (tie.spec returns mul-wide-size element-copy-out-wide-size wide-size-requires returns-2)

@@ -1,0 +1,18 @@
+use Rattle.tree.specs.Lay.{held}
+use Rattle.proof.specs.Kept.{kept}
+use Rattle.proof.proofs.Stepping.{laid-fits, checked-laid}
+use borrow.Author.Needs.{needs}
+use Rattle.proof.proofs.begin.Statement.{statement}
+use Rattle.proof.proofs.begin.Tie as tie
+
+check-requires : tie.Need-check-requires
+check-requires c κs = search needs
+
+returns : tie.Need-returns
+returns c = λ F s ea ra la va oa wa e n few l.
+    let small = laid-fits l in
+    let k = c .check .ensures F s e (l .proved) (l .formulas) n (held small (l .count) (l .nodes)) (λ _. few) in
+    kept (checked-laid F s (l .formulas) (l .graph) (l .necessities) (l .waiting) (l .steps) (k .0) (k .1 small) small)
+
+pub begin-spec : {M : Type 1} → statement M
+begin-spec = tie.close (tie.spec check-requires returns)

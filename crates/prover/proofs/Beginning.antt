@@ -1,0 +1,70 @@
+-- The branch in the arrays, before any step.
+use mathlib.Core.Path.{_≡_, refl, sym, _∙_}
+use mathlib.Core.Bool.{false}
+use mathlib.Core.List.{List, [], reverse}
+use Prim.Native.Nat.{ℕ, _≤_, _/_}
+use native.Mathlib.Omega.{arith}
+use lib.ListN.{length, length-map}
+use Rattle.arrays.specs.Listed.{Listed}
+use Rattle.definition.specs.Lists.{empty, below}
+use Rattle.definition.specs.Records.{Rec, decode, marks}
+use Rattle.definition.specs.Flags.{Flags}
+use Rattle.definition.specs.Graph.{emptyGraph}
+use Rattle.definition.specs.Tree.{leaves}
+use Rattle.definition.specs.Run.{State, rooted, branchNodes, begun, start, checkForContradictions}
+use Rattle.definition.proofs.Accepted.{length-decode}
+use Rattle.definition.proofs.Count.{length-rooted}
+use Rattle.definition.proofs.Treed.{leaves-few}
+use Rattle.definition.proofs.Growing.{begun-treed}
+use Rattle.formula.specs.Recorded.{Recorded}
+use Rattle.formula.proofs.Recorded.{recorded-fits}
+use Rattle.graph.specs.Drawn.{Drawn}
+use Rattle.tree.specs.Lay.{Held, lay}
+use Rattle.tree.proofs.Nodes.{held-ok, held-fits}
+use Rattle.necessities.specs.Stack.{Stack}
+use Rattle.proof.specs.declared.Progress.{Progress}
+use Rattle.proof.specs.Kept.{Laid, Kept}
+
+pub few-records : (bytes : List ℕ) → length bytes / 6 ≤ 256 → length (decode bytes) ≤ 256
+few-records bytes h = omega (arith, length-decode bytes, h)
+
+module _ (rs : List Rec) where
+  length-branch : length (branchNodes rs) ≡ length (marks rs)
+  unfolding branchNodes
+  length-branch = length-map (marks rs) _
+
+  begun-nodes : begun rs .nodes ≡ rooted (branchNodes rs)
+  unfolding begun
+  begun-nodes = refl
+
+  module _ (some : empty (marks rs) ≡ false) (few : length (marks rs) ≤ 64) where
+    begun-few : length (rooted (branchNodes rs)) ≤ 64
+    begun-few = omega (arith, length-rooted (branchNodes rs), length-branch, few)
+
+    begun-leaves : length (leaves (begun rs .nodes)) ≤ 512
+    unfolding begun
+    begun-leaves = omega (arith, begun-few, leaves-few (begun rs .nodes) (begun-treed rs some (omega (arith, begun-few))))
+
+    begun-laid : {count len waiting : ℕ} {fa ta ea ra la va oa wa : List ℕ} → Recorded rs count fa → Held (rooted (branchNodes rs)) len ta → Listed (reverse (below (length (branchNodes rs)))) waiting wa →
+        Drawn emptyGraph 0 ea → Stack [] 0 oa ra la va →
+        Laid (begun rs) (record { formulas = count; nodes = len; worlds = 0; necessities = 0; waiting = waiting; steps = 0; proved = false }) fa ta ea ra la va oa wa
+    unfolding begun
+    begun-laid r h w g n =
+        let k = held-ok h (held-fits h (omega (arith, begun-few))) in
+        record { formulas = r; room = omega (arith, begun-few); count = k .0; nodes = k .1; graph = g; necessities = n; waiting = w; proved = refl; steps = refl }
+
+    -- records read, nodes linked, root queued, contradictions checked: the start
+    pub started : (F : Flags) {count len waiting : ℕ} {p : Progress} {fa ta tb ea ra la va oa wa : List ℕ} → length rs ≤ 256 → Drawn emptyGraph 0 ea → Stack [] 0 oa ra la va → Recorded rs count fa →
+        (count ≤ 1280 → Held (rooted (branchNodes rs)) len ta) →
+        (length (branchNodes rs) ≡ len → len ≤ 512 → ta ≡ lay (rooted (branchNodes rs)) → Listed (reverse (below (length (branchNodes rs)))) waiting wa) →
+        (count ≤ 1280 → length (leaves (begun rs .nodes)) ≤ 512 →
+        Laid (begun rs) (record { formulas = count; nodes = len; worlds = 0; necessities = 0; waiting = waiting; steps = 0; proved = false }) fa ta ea ra la va oa wa →
+        Kept (checkForContradictions F (begun rs)) p fa tb ea ra la va oa wa) →
+        Kept (start F rs) p fa tb ea ra la va oa wa
+    unfolding start
+    started F small g n r tree queue check =
+        let fits = recorded-fits r (omega (arith, small)) in
+        let h = tree fits in
+        let low = held-fits h (omega (arith, begun-few)) in
+        let k = held-ok h low in
+        check fits begun-leaves (begun-laid r h (queue (sym (length-rooted (branchNodes rs)) ∙ k .0) low (k .1)) g n)

@@ -1,0 +1,60 @@
+-- What a run that has stopped leaves: the answer, and the trays.
+use mathlib.Core.Path.{_≡_, refl, sym, ap, _∙_, subst}
+use mathlib.Core.Bool.{Bool, true, false, cond}
+use mathlib.Core.List.{List, map}
+use mathlib.Core.Logic.{_⊎_, inl, inr}
+use Prim.Native.Nat.{ℕ, _≤_, _<_}
+use native.Mathlib.Omega.{arith}
+use lib.Dec.{leb}
+use lib.ListN.{length, replicate}
+use borrow.Author.Tests.{lt-ltb, le-ltb}
+use Rattle.definition.specs.Limits.{nodeTrayLength, formulaTrayLength, edgeTrayLength, mostWorlds}
+use Rattle.definition.specs.Lists.{Each, concatMap}
+use Rattle.definition.specs.Tree.{Node}
+use Rattle.definition.specs.Records.{Rec}
+use Rattle.definition.specs.Run
+use Rattle.definition.specs.Run.{State}
+use Rattle.definition.specs.Trays.{Trays, nodeBytes, recordBytes, rowNumber, padded, over, traysOf, zeroTrays, laidOver}
+use Rattle.definition.specs.Call.{Outcome, Full, Ended, Answer, refusal, verdict, outcomeOfRun, answerOf, traysAfter, late}
+use Rattle.formula.proofs.Recorded.{recorded-fits, recorded-count}
+use Rattle.proof.specs.declared.Progress.{Progress}
+use Rattle.proof.specs.Kept.{Laid, Kept, kept, full}
+use Rattle.prover.specs.Contract.{trays}
+use Rattle.prover.specs.Parts.{Fits, Sized}
+
+module _ {s : State} {p : Progress} {fa ta ea ra la va oa wa : List ℕ} where
+  kept-full : Kept s p fa ta ea ra la va oa wa → 512 < p .nodes → Run.full s ≡ true
+  unfolding Run.full
+  kept-full (kept k) h = absurd (omega (arith, k .room, k .count))
+  kept-full (full a b) h = lt-ltb 512 (length (s .nodes)) b
+
+  pub kept-laid : Kept s p fa ta ea ra la va oa wa → p .nodes ≤ 512 → Laid s p fa ta ea ra la va oa wa
+  kept-laid (kept k) h = k
+  kept-laid (full a b) h = absurd (omega arith)
+
+  pub laid-ended : Laid s p fa ta ea ra la va oa wa → Run.full s ≡ false
+  unfolding Run.full
+  laid-ended l = le-ltb 512 (length (s .nodes)) (l .room)
+
+  -- full: refusal 12, and the written lengths zeroed
+  module _ (lent : Trays) {n f e : List ℕ} where
+    pub ends-full : Kept s p fa ta ea ra la va oa wa → 512 < p .nodes → n ≡ over (replicate 6144 0) (lent .nodes) → f ≡ over (replicate 7680 0) (lent .formulas) → e ≡ over (replicate 25 0) (lent .edges) →
+        (refusal 12 0 ≡ answerOf (outcomeOfRun s)) × (trays n f e ≡ traysAfter (outcomeOfRun s) lent)
+    unfolding outcomeOfRun answerOf traysAfter laidOver zeroTrays
+    ends-full k h a b c = rw (kept-full k h, a, b, c) (refl, refl)
+
+    -- ended: the verdict, and the trays laid out
+    pub ends-laid : Laid s p fa ta ea ra la va oa wa → Fits s → {i j k m : ℕ} →
+        n ≡ over (padded nodeTrayLength (concatMap nodeBytes (s .nodes))) (lent .nodes) → f ≡ over (padded formulaTrayLength (concatMap recordBytes (s .formulas))) (lent .formulas) →
+        e ≡ over (padded edgeTrayLength (map rowNumber (s .graph .rows))) (lent .edges) →
+        (p .nodes ≤ 65535 → i ≡ p .nodes) → (p .formulas ≤ 65535 → j ≡ p .formulas) → (p .worlds ≤ 65535 → k ≡ p .worlds) → (p .steps ≤ 65535 → m ≡ p .steps) →
+        (verdict (record { proved = p .proved; late = leb 25 (p .worlds); identifiers = i; formulas = j; worlds = k; steps = m }) ≡ answerOf (outcomeOfRun s)) ×
+        (trays n f e ≡ traysAfter (outcomeOfRun s) lent)
+    unfolding outcomeOfRun answerOf traysAfter laidOver traysOf late
+    ends-laid l h {i} {j} {k} {m} a b c w x y z =
+        let known = recorded-count (l .formulas) (recorded-fits (l .formulas) (h .formulas)) in
+        let w′ : i ≡ length (s .nodes) = w (omega (arith, l .room, l .count)) ∙ sym (l .count) in
+        let x′ : j ≡ length (s .formulas) = x (omega (arith, h .formulas, known)) ∙ sym known in
+        let z′ : m ≡ s .steps = z (omega (arith, h .steps, l .steps)) ∙ l .steps in
+        let y′ : k ≡ p .worlds = y (omega (arith, l .graph .room)) in
+        rw (laid-ended l, a, b, c, l .proved, w′, x′, y′, z′, l .graph .count) (refl, refl)

@@ -1,0 +1,4 @@
+pub mod Beginning
+pub mod Ending
+pub mod Whole
+pub mod Words

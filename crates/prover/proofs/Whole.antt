@@ -1,0 +1,183 @@
+-- The whole call, from its parts.
+use mathlib.Core.Path.{_≡_, refl, sym, ap, _∙_, subst}
+use mathlib.Core.Bool.{Bool, true, false, cond}
+use mathlib.Core.List.{List, [], _∷_, _++_}
+use mathlib.Core.Option.{Option, none, some}
+use mathlib.Core.Logic.{_⊎_, inl, inr}
+use Prim.Native.Nat.{ℕ, suc, _≤_, _<_, _/_}
+use native.Mathlib.Omega.{arith}
+use lib.ListN.{length, getD}
+use Rattle.definition.specs.Limits.{mostWorlds}
+use Rattle.definition.specs.Lists.{Each, find, empty}
+use Rattle.definition.specs.Records.{Rec, Unknown, nobody, made, decode, recAt, marks}
+use Rattle.definition.specs.Flags.{Flags, flagsOf}
+use Rattle.definition.specs.Tree.{Node, newNode}
+use Rattle.definition.specs.Graph.{initializeGraphIfNeeded}
+use Rattle.definition.specs.Run.{State, full, start, run, final}
+use Rattle.definition.specs.Trays.{Trays, zeroTrays, laidOver}
+use Rattle.definition.specs.Checks.{Check, check, recordChecks, checks, refused}
+use Rattle.definition.specs.Call.{Outcome, Refused, Full, Ended, Answer, refusal, outcomeOfRun, outcomeBy, outcome, answerOf, answer, traysAfter, traysLeft, lengthsOf}
+use Rattle.definition.specs.Claim.{Proved}
+use Rattle.definition.proofs.Lists.{each-append, each-any}
+use Rattle.definition.proofs.Edges.{init-one, init-less}
+use Rattle.definition.proofs.Bounds.{bounded-formulas, bounded-steps}
+use Rattle.definition.proofs.Accepted.{Accepted, accepted, length-decode}
+use Rattle.definition.proofs.Calls.{final-bounded}
+use Rattle.definition.proofs.Ready.{Fit, fit-start}
+use Rattle.definition.proofs.Sound.{demand-3}
+use Rattle.graph.specs.declared.NormalModalLogic.{NormalModalLogic}
+use Rattle.graph.specs.Logic.{logicOf}
+use Rattle.proof.specs.declared.Progress.{Progress}
+use Rattle.proof.specs.Kept.{Flagged, Kept}
+use Rattle.prover.specs.Contract.{Contract}
+use Rattle.prover.specs.Said.{worldsOf}
+use Rattle.prover.specs.Parts.{Fits, Ends, Sized}
+
+each-of : {A : Type 0} (P : A → Type 0) (d : A) (xs : List A) → ((i : ℕ) → i < length xs → P (getD xs i d)) → Each P xs
+each-of P d [] h = tt
+each-of P d (x ∷ xs) h = (h 0 (omega arith), each-of P d xs (λ i l. h (suc i) (omega arith)))
+
+find-each : {A : Type 0} (P : A → Type 0) (p : A → Bool) (xs : List A) (x : A) → Each P xs → find p xs ≡ some x → P x
+find-each P p [] x h e = let o : _≡_ {A = ℕ} 0 1 = cc in absurd (omega arith)
+find-each P p (y ∷ ys) x h e = go (p y) e (find-each P p ys x (h .1))
+  where
+    go : (b : Bool) → cond b (some y) (find p ys) ≡ some x → (find p ys ≡ some x → P x) → P x
+    go true d f = let same : y ≡ x = cc in subst P same (h .0)
+    go false d f = f d
+
+abbrev Low : Check → Type 0
+Low c = c .number ≤ 11
+
+records-low : (sizes : List ℕ) (rs : List Rec) → Each Low (recordChecks sizes rs)
+unfolding recordChecks
+records-low sizes [] = tt
+records-low sizes (r ∷ rs) = (omega arith, (omega arith, (omega arith, (omega arith, records-low _ rs))))
+
+-- the checks before the run are numbered 1 to 11
+refused-low : (bytes : List ℕ) (flags : ℕ) (lent : Trays) (c : Check) → refused bytes flags (lengthsOf lent) ≡ some c → c .number ≤ 11
+unfolding refused checks
+refused-low bytes flags lent c e =
+    find-each Low (λ (d : Check). d .applies) (checks bytes flags (lengthsOf lent)) c
+    (omega arith, (omega arith, (omega arith, (omega arith, (omega arith, each-append Low (recordChecks [] (decode bytes)) _ (records-low [] (decode bytes)) (omega arith, (omega arith, tt)))))))
+    e
+
+module _ (branch : List ℕ) (flags : ℕ) (lent : Trays) where
+  abbrev o : Outcome
+  o = outcome branch flags (lengthsOf lent)
+
+  keeps : (x : Outcome) (number place : ℕ) → answerOf x ≡ refusal number place → number ≤ 11 → traysAfter x lent ≡ lent
+  unfolding answerOf traysAfter
+  keeps (Refused c) number place e h = refl
+  keeps Full number place e h = let d : 12 ≡ number = cc in absurd (omega (arith, h, d))
+  keeps (Ended s) number place e h = let d : _≡_ {A = ℕ} 0 1 = cc in absurd (omega arith)
+
+  zeroes : (x : Option Check) (place : ℕ) → refused branch flags (lengthsOf lent) ≡ x → answerOf (outcomeBy branch flags x) ≡ refusal 12 place → traysAfter (outcomeBy branch flags x) lent ≡ laidOver zeroTrays lent
+  unfolding answerOf traysAfter outcomeBy outcomeOfRun
+  zeroes (some c) place q e = let d : c .number ≡ 12 = cc in absurd (omega (arith, d, refused-low branch flags lent c q))
+  zeroes none place q e = go (full z) e
+    where
+      z : State
+      z = final (flagsOf flags) (decode branch)
+
+      go : (b : Bool) → answerOf (cond b Full (Ended z)) ≡ refusal 12 place → traysAfter (cond b Full (Ended z)) lent ≡ laidOver zeroTrays lent
+      go true d = refl
+      go false d = let k : _≡_ {A = ℕ} 0 1 = cc in absurd (omega arith)
+
+  -- the answer and the trays give the other clauses
+  contracted : (r : Answer) (left : Trays) → r ≡ answerOf o → left ≡ traysAfter o lent → Contract branch flags lent r left
+  unfolding answer traysLeft outcome
+  contracted r left a t =
+      record {
+        answers = a;
+        leaves = t;
+        refusalsKeep = λ number place e h. t ∙ keeps o number place (sym a ∙ e) h;
+        fullZeroes = λ place e. t ∙ zeroes (refused branch flags (lengthsOf lent)) place refl (sym a ∙ e);
+        provedIsSound = λ p. demand-3 branch flags lent (subst Proved a p);
+      }
+
+  -- refused by a check
+  pub contract-refused : (number place : ℕ) → some (check number place true) ≡ refused branch flags (lengthsOf lent) → Contract branch flags lent (refusal number place) lent
+  unfolding outcome outcomeBy answerOf traysAfter
+  contract-refused number place e =
+      let d : Refused (check number place true) ≡ o = ap (outcomeBy branch flags) e in
+      contracted _ lent (ap answerOf d) (ap (λ (x : Outcome). traysAfter x lent) d)
+
+  -- accepted, and run
+  contract-run : (r : Answer) (left : Trays) → refused branch flags (lengthsOf lent) ≡ none →
+      r ≡ answerOf (outcomeOfRun (final (flagsOf flags) (decode branch))) → left ≡ traysAfter (outcomeOfRun (final (flagsOf flags) (decode branch))) lent → Contract branch flags lent r left
+  unfolding outcome outcomeBy
+  contract-run r left e a t =
+      let d : outcomeOfRun (final (flagsOf flags) (decode branch)) ≡ o = ap (outcomeBy branch flags) (sym e) in
+      contracted r left (a ∙ ap answerOf d) (t ∙ ap (λ (x : Outcome). traysAfter x lent) d)
+
+  module _ (a : Accepted branch flags (lengthsOf lent)) where
+    abbrev F : Flags
+    F = flagsOf flags
+
+    abbrev rs : List Rec
+    rs = decode branch
+
+    run-fit : Fit F (length rs) (start F rs)
+    run-fit = fit-start F rs (a .few) (λ i l. a .records i l .links) (a .marked)
+
+    abbrev Marked : Rec → Type 0
+    Marked r = r .mark < 256
+
+    marked : Each Marked rs
+    unfolding recAt
+    marked = each-of Marked (made Unknown 0 0) rs (λ i l. omega (arith, a .records i l .mark))
+
+    run-ends : Ends (final F rs)
+    run-ends e =
+        let h = final-bounded branch flags (lengthsOf lent) a e Marked (λ r k. omega (arith, k .mark)) marked in
+        let b = h .sizes in
+        record {
+          worlds = each-of (λ (x : Node). x .world < 256) (newNode nobody nobody nobody) (final F rs .nodes) (λ x l. omega (arith, b .labels x l .world, low (b .worlds) (init-less F (final F rs .graph))));
+          steps = bounded-steps Marked (λ r k. omega (arith, k .mark)) F (length rs) (final F rs) h e;
+          formulas = bounded-formulas Marked (λ r k. omega (arith, k .mark)) F (length rs) (final F rs) h (a .few) e;
+          marks = b .records;
+          rows = b .squared .rows;
+          columns = b .squared .each;
+        }
+      where
+        low : final F rs .graph .worlds ≤ mostWorlds → (final F rs .graph .worlds ≡ 0) ⊎ (initializeGraphIfNeeded F (final F rs .graph) .worlds ≡ final F rs .graph .worlds) →
+            initializeGraphIfNeeded F (final F rs .graph) .worlds ≤ mostWorlds
+        low h (inl d) = omega (arith, init-one F (final F rs .graph) d)
+        low h (inr d) = omega (arith, h, d)
+
+    -- begun, run to its end, laid out
+    pub runs : {r : Answer} {left : Trays} {logic : NormalModalLogic} {skip : Bool} {p q : Progress} {fa ta ea ra la va oa wa fb tb eb rb lb vb ob wb : List ℕ} → refused branch flags (lengthsOf lent) ≡ none →
+        logic ≡ logicOf F → skip ≡ F .skip →
+        (length branch / 6 ≤ 256 → empty (marks rs) ≡ false → length (marks rs) ≤ 64 → Kept (start F rs) p fa ta ea ra la va oa wa) →
+        (Flagged F logic skip → Fit F (length rs) (start F rs) → Kept (start F rs) p fa ta ea ra la va oa wa → Kept (run 513 F (start F rs)) q fb tb eb rb lb vb ob wb) →
+        (Kept (final F rs) q fb tb eb rb lb vb ob wb → Ends (final F rs) → Sized lent → (r ≡ answerOf (outcomeOfRun (final F rs))) × (left ≡ traysAfter (outcomeOfRun (final F rs)) lent)) →
+        Contract branch flags lent r left
+    unfolding final
+    runs e l k begin go finish =
+        let ran = go (record { logic = l; skip = k }) run-fit (begin (omega (arith, length-decode branch, a .few)) (a .marked) (a .fewMarked)) in
+        let done = finish ran run-ends (record { nodes = a .nodes; formulas = a .formulas; edges = a .edges }) in
+        contract-run _ _ e (done .0) (done .1)
+
+-- no verdict has more than 25 worlds
+answer-worlds : (branch : List ℕ) (flags : ℕ) (lent : Trays) → worldsOf (answer branch flags lent) ≤ 255
+unfolding answer outcome outcomeBy outcomeOfRun answerOf worldsOf
+answer-worlds branch flags lent = go (refused branch flags (lengthsOf lent)) refl
+  where
+    z : State
+    z = final (flagsOf flags) (decode branch)
+
+    ends : Accepted branch flags (lengthsOf lent) → (b : Bool) → full z ≡ b → worldsOf (answerOf (cond b Full (Ended z))) ≤ 255
+    ends a true q = omega arith
+    ends a false q =
+        let P : Rec → Type 0 = λ r. Unit {0} in
+        omega (arith, final-bounded branch flags (lengthsOf lent) a q P (λ r k. tt) (each-any P (λ r. tt) (decode branch)) .sizes .worlds)
+
+    go : (x : Option Check) → refused branch flags (lengthsOf lent) ≡ x → worldsOf (answerOf (outcomeBy branch flags x)) ≤ 255
+    go (some c) q = omega arith
+    go none q = ends (accepted branch flags (lengthsOf lent) q) (full z) refl
+
+-- the same answer in other words
+pub contract-as : {branch : List ℕ} {flags : ℕ} {lent left : Trays} {a b : Answer} → Contract branch flags lent a left → (worldsOf a ≤ 255 → b ≡ a) → Contract branch flags lent b left
+contract-as {branch} {flags} {lent} {left} k e =
+    let low = subst (λ (x : Answer). worldsOf x ≤ 255) (sym (k .answers)) (answer-worlds branch flags lent) in
+    subst (λ (x : Answer). Contract branch flags lent x left) (sym (e low)) k

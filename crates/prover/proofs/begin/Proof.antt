@@ -1,0 +1,35 @@
+use Rattle.definition.specs.Records.{decode}
+use Rattle.definition.specs.Run.{begun}
+use Rattle.prover.proofs.Beginning.{few-records, started}
+use borrow.Author.Needs.{needs}
+use Rattle.prover.proofs.begin.Statement.{statement}
+use Rattle.prover.proofs.begin.Tie as tie
+
+read-records-requires : tie.Need-read-records-requires
+read-records-requires c κs = search needs
+
+begin-tree-requires : tie.Need-begin-tree-requires
+begin-tree-requires c κs = search needs
+
+begin-queue-requires : tie.Need-begin-queue-requires
+begin-queue-requires c κs = search needs
+
+begin-requires : tie.Need-begin-requires
+begin-requires c κs = search needs
+
+returns : tie.Need-returns
+returns c = λ F ea ra la va oa e small some few f t w g n.
+    let rs = decode _ in
+    let r = c .before .before .before .before .before .before .before .before .before .read-records .ensures small f in
+    started rs some few F (few-records _ small) g n r (λ fits. c .before .before .before .before .before .before .begin-tree .ensures rs r fits t) (λ l low same. c .before .before .before .begin-queue .ensures rs l low same w)
+    (λ fits leaves laid. c .begin .ensures F (begun rs) ea ra la va oa _ e fits leaves laid)
+
+pub begin-spec : {M : Type 1} → statement M
+begin-spec =
+    tie.close
+    (tie.spec
+    read-records-requires
+    begin-tree-requires
+    begin-queue-requires
+    begin-requires
+    returns)

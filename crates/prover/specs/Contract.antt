@@ -1,0 +1,25 @@
+-- The contract of the call, clause by clause. `lent` are the trays at entry, `left` the trays at exit.
+use mathlib.Core.Path.{_≡_}
+use mathlib.Core.List.{List}
+use Prim.Native.Nat.{ℕ, _≤_}
+use Rattle.definition.specs.Records.{decode}
+use Rattle.definition.specs.Flags.{flagsOf}
+use Rattle.definition.specs.Trays.{Trays, zeroTrays, laidOver}
+use Rattle.definition.specs.Call.{Answer, refusal, answer, traysLeft}
+use Rattle.definition.specs.Claim.{Proved, NoModel}
+
+abbrev pub trays : List ℕ → List ℕ → List ℕ → Trays
+trays nodes formulas edges = record { nodes = nodes; formulas = formulas; edges = edges }
+
+pub record Contract (branch : List ℕ) (flags : ℕ) (lent : Trays) (said : Answer) (left : Trays) : Type 0 where
+  -- demands 1 and 2: "It returns one verdict or one refusal from document 01's table": the definition's, with its counts and its place
+  pub answers : said ≡ answer branch flags lent
+  -- each tray: what the definition lays out, byte for byte, then what lay beyond
+  pub leaves : left ≡ traysLeft branch flags lent
+  -- "Refusals 1 to 11 write nothing"
+  pub refusalsKeep : (number place : ℕ) → said ≡ refusal number place → number ≤ 11 → left ≡ lent
+  -- "12 zeroes the three lengths"
+  pub fullZeroes : (place : ℕ) → said ≡ refusal 12 place → left ≡ laidOver zeroTrays lent
+  -- demand 3: "if a verdict is returned in which `proved` is true, late beside it or not, then no world of any finite Kripke model
+  -- with the flagged properties (..), however large, makes every formula of the branch true"
+  pub provedIsSound : Proved said → NoModel (flagsOf flags) (decode branch)

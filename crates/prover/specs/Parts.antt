@@ -1,0 +1,30 @@
+-- What the last part of the call relies on.
+use mathlib.Core.Path.{_≡_}
+use mathlib.Core.Bool.{Bool, false}
+use mathlib.Core.List.{List}
+use Prim.Native.Nat.{ℕ, _≤_, _<_}
+use lib.ListN.{length}
+use Rattle.definition.specs.Limits.{nodeTrayLength, formulaTrayLength, edgeTrayLength}
+use Rattle.definition.specs.Lists.{Each}
+use Rattle.definition.specs.Records.{Rec}
+use Rattle.definition.specs.Tree.{Node}
+use Rattle.definition.specs.Trays.{Trays}
+use Rattle.definition.specs.Run.{State, full}
+
+-- a run that is not full ends with numbers that fit their bytes, and a square of edges
+pub record Fits (s : State) : Type 0 where
+  pub worlds : Each (λ (x : Node). x .world < 256) (s .nodes)
+  pub steps : s .steps ≤ 512
+  pub formulas : length (s .formulas) ≤ 1280
+  pub marks : Each (λ (r : Rec). r .mark < 256) (s .formulas)
+  pub rows : length (s .graph .rows) ≡ s .graph .worlds
+  pub columns : Each (λ (row : List Bool). length row ≡ s .graph .worlds) (s .graph .rows)
+
+abbrev pub Ends : State → Type 0
+Ends s = full s ≡ false → Fits s
+
+-- the trays are long enough
+pub record Sized (t : Trays) : Type 0 where
+  pub nodes : nodeTrayLength ≤ length (t .nodes)
+  pub formulas : formulaTrayLength ≤ length (t .formulas)
+  pub edges : edgeTrayLength ≤ length (t .edges)

@@ -1,0 +1,244 @@
+// The call: a branch, a flag byte and three lent trays give a verdict or a refusal.
+use branch::begin_queue;
+use branch::begin_tree;
+use branch::read_records;
+use checks::Checked;
+use checks::check;
+use graph::NormalModalLogic;
+use proof::Progress;
+use trays::clear;
+use trays::clear_edges;
+use trays::write_edges;
+use trays::write_formulas;
+use trays::write_nodes;
+ghost use mathlib.Core.Path.{_≡_};
+ghost use mathlib.Core.Bool.{false, cond};
+ghost use mathlib.Core.List.{List, []};
+ghost use mathlib.Core.Option.{none};
+ghost use Prim.Native.Nat.{ℕ, _≤_, _/_, _%_};
+ghost use lib.Dec.{eqb};
+ghost use lib.ListN.{length};
+ghost use Rattle.arrays.specs.Listed.{Listed};
+ghost use Rattle.definition.specs.Lists.{empty};
+ghost use Rattle.definition.specs.Records.{decode, marks};
+ghost use Rattle.definition.specs.Flags.{Flags, flagsOf};
+ghost use Rattle.definition.specs.Graph.{emptyGraph};
+ghost use Rattle.definition.specs.Run.{State, start};
+ghost use Rattle.definition.specs.Checks.{refused};
+ghost use Rattle.definition.specs.Call.{outcomeOfRun, answerOf, traysAfter, lengthsOf};
+ghost use Rattle.formula.specs.Recorded.{Recorded};
+ghost use Rattle.graph.specs.Drawn.{Drawn};
+ghost use Rattle.graph.specs.Logic.{logicOf};
+ghost use Rattle.tree.specs.Lay.{Held};
+ghost use Rattle.necessities.specs.Stack.{Stack};
+ghost use Rattle.proof.specs.Kept.{Kept};
+ghost use Rattle.prover.specs.Contract.{trays, Contract};
+ghost use Rattle.prover.specs.Said.{said, read, worldsOf};
+ghost use Rattle.prover.specs.Parts.{Ends, Sized};
+
+// A verdict, or a refusal by the table's number with its record number.
+pub enum Answer {
+    Refusal {
+        number: u16,
+        place: u16,
+    },
+    Verdict {
+        proved: bool,
+        late: bool,
+        identifiers: u16,
+        formulas: u16,
+        worlds: u16,
+        steps: u16,
+    },
+}
+
+// The flag of a value: 1, 2, 4 or 8.
+fn flag(flags: u8, value: u8) -> bool
+    requires { ⌜ (value ≡ 0 → ⊥) ⌝ }
+    ensures { λ r. ⌜ r ≡ eqb (flags / value % 2) 1 ⌝ }
+{
+    flags / value % 2 == 1
+}
+
+fn logic_of(flags: u8) -> NormalModalLogic
+    ensures { λ r. ⌜ r ≡ logicOf (flagsOf flags) ⌝ }
+{
+    NormalModalLogic {
+        is_reflexive: flag(flags, 1),
+        is_symmetric: flag(flags, 2),
+        is_transitive: flag(flags, 4),
+    }
+}
+
+// The state before any step.
+fn begin(
+    branch: &[u8],
+    skip: bool,
+    formulas: &mut [u16; 5120],
+    tree: &mut [u16; 4608],
+    wait: &mut [u16; 512],
+) -> Progress
+    ensures { λ r. ⌜ ((F : Flags) (ea ra la va oa : List ℕ) → skip ≡ F .skip → length (now (branch .entry)) / 6 ≤ 256 → empty (marks (decode (now (branch .entry)))) ≡ false → length (marks (decode (now (branch .entry)))) ≤ 64
+        → Recorded [] 0 (now (formulas .entry)) → Held [] 0 (now (tree .entry)) → Listed [] 0 (now (wait .entry)) → Drawn emptyGraph 0 ea → Stack [] 0 oa ra la va
+        → Kept (start F (decode (now (branch .entry)))) r (now (formulas .exit)) (now (tree .exit)) ea ra la va oa (now (wait .exit))) ⌝ }
+{
+    let count = read_records(branch, formulas);
+    let len = begin_tree(formulas, count, tree);
+    let waiting = begin_queue(tree, len, wait);
+    let p = Progress {
+        formulas: count,
+        nodes: len,
+        worlds: 0,
+        necessities: 0,
+        waiting,
+        steps: 0,
+        proved: false,
+    };
+    proof::begin(skip, p, formulas, tree)
+}
+
+// A count as the answer has it: none is above 65,535.
+fn narrow(n: usize) -> u16
+    ensures { λ r. ⌜ (n ≤ 65535 → r ≡ n) ⌝ }
+{
+    if 65535 < n {
+        return 65535;
+    }
+    n as u16
+}
+
+// The answer of a run that has stopped, and its trays.
+fn finish(
+    p: Progress,
+    table: &[u16; 5120],
+    tree: &[u16; 4608],
+    graph: &[u8; 625],
+    nodes: &mut [u8],
+    formulas: &mut [u8],
+    edges: &mut [u32],
+) -> Answer
+    ensures { λ r. ⌜ ((s : State) (ra la va oa wa : List ℕ) → Kept s p (now (table .entry)) (now (tree .entry)) (now (graph .entry)) ra la va oa wa → Ends s
+        → Sized (trays (now (nodes .entry)) (now (formulas .entry)) (now (edges .entry)))
+        → (said r ≡ answerOf (outcomeOfRun s))
+        × (trays (now (nodes .exit)) (now (formulas .exit)) (now (edges .exit)) ≡ traysAfter (outcomeOfRun s) (trays (now (nodes .entry)) (now (formulas .entry)) (now (edges .entry))))) ⌝ }
+{
+    if 512 < p.nodes {
+        clear(nodes, 6144);
+        clear(formulas, 7680);
+        clear_edges(edges);
+        return Answer::Refusal {
+            number: 12,
+            place: 0,
+        };
+    }
+    write_nodes(nodes, tree, p.nodes);
+    write_formulas(formulas, table, p.formulas);
+    write_edges(edges, graph, p.worlds);
+    Answer::Verdict {
+        proved: p.proved,
+        late: 25 <= p.worlds,
+        identifiers: narrow(p.nodes),
+        formulas: narrow(p.formulas),
+        worlds: narrow(p.worlds),
+        steps: narrow(p.steps),
+    }
+}
+
+// The run of an accepted branch.
+fn run(branch: &[u8], flags: u8, nodes: &mut [u8], formulas: &mut [u8], edges: &mut [u32]) -> Answer
+    ensures { λ r. ⌜ (refused (now (branch .entry)) flags (lengthsOf (trays (now (nodes .entry)) (now (formulas .entry)) (now (edges .entry)))) ≡ none
+        → Contract (now (branch .entry)) flags (trays (now (nodes .entry)) (now (formulas .entry)) (now (edges .entry))) (said r) (trays (now (nodes .exit)) (now (formulas .exit)) (now (edges .exit)))) ⌝ }
+{
+    let mut table = [0u16; 5120];
+    let mut tree = [65535u16; 4608];
+    let mut graph = [0u8; 625];
+    let mut rows = [0u16; 1536];
+    let mut leaves = [0u32; 8192];
+    let mut visited = [0u32; 8192];
+    let mut order = [0u16; 512];
+    let mut wait = [0u16; 512];
+    let skip = flag(flags, 8);
+    let begun = begin(branch, skip, &mut table, &mut tree, &mut wait);
+    let p = proof::prove(
+        logic_of(flags),
+        skip,
+        begun,
+        &mut table,
+        &mut tree,
+        &mut graph,
+        &mut rows,
+        &mut leaves,
+        &mut visited,
+        &mut order,
+        &mut wait,
+    );
+    finish(p, &table, &tree, &graph, nodes, formulas, edges)
+}
+
+// The call. Nothing is written before the run has ended.
+pub fn prove(
+    branch: &[u8],
+    flags: u8,
+    nodes: &mut [u8],
+    formulas: &mut [u8],
+    edges: &mut [u32],
+) -> Answer
+    ensures { λ r. ⌜ Contract (now (branch .entry)) flags (trays (now (nodes .entry)) (now (formulas .entry)) (now (edges .entry))) (said r) (trays (now (nodes .exit)) (now (formulas .exit)) (now (edges .exit))) ⌝ }
+{
+    match check(branch, flags, nodes.len(), formulas.len(), edges.len()) {
+        Checked::Refused { number, place } => Answer::Refusal { number, place },
+        Checked::Accepted => run(branch, flags, nodes, formulas, edges),
+    }
+}
+
+fn bit(b: bool) -> u64
+    ensures { λ r. ⌜ r ≡ cond b 1 0 ⌝ }
+    ensures { λ r. ⌜ r ≤ 1 ⌝ }
+{
+    if b {
+        return 1;
+    }
+    0
+}
+
+// The answer in one number.
+fn word(x: Answer) -> u64
+    ensures { λ r. ⌜ (worldsOf (said x) ≤ 255 → read r ≡ said x) ⌝ }
+{
+    match x {
+        Answer::Refusal { number, place } => {
+            place as u64 + number as u64 * 65536 + 9223372036854775808
+        }
+        Answer::Verdict {
+            proved,
+            late,
+            identifiers,
+            formulas,
+            worlds,
+            steps,
+        } => {
+            if 255 < worlds {
+                return 0;
+            }
+            let counts = identifiers as u64 + formulas as u64 * 65536 + steps as u64 * 4294967296;
+            let p = bit(proved) * 72057594037927936;
+            let l = bit(late) * 144115188075855872;
+            counts + worlds as u64 * 281474976710656 + p + l
+        }
+    }
+}
+
+// The call for C and Rust. The answer is the number itself, so nothing but the trays is written.
+#[no_mangle]
+pub extern "C" fn wozhnerk_prove(
+    branch: &[u8],
+    flags: u8,
+    nodes: &mut [u8],
+    formulas: &mut [u8],
+    edges: &mut [u32],
+) -> u64
+    ensures { λ r. ⌜ Contract (now (branch .entry)) flags (trays (now (nodes .entry)) (now (formulas .entry)) (now (edges .entry))) (read r) (trays (now (nodes .exit)) (now (formulas .exit)) (now (edges .exit))) ⌝ }
+{
+    let x = prove(branch, flags, nodes, formulas, edges);
+    word(x)
+}

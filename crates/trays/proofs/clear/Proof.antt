@@ -1,0 +1,21 @@
+use mathlib.Core.Path.{_∙_, ap}
+use mathlib.Core.List.{List, []}
+use Prim.Native.Nat.{ℕ}
+use native.Mathlib.Omega.{arith}
+use Rattle.definition.specs.Trays.{over}
+use Rattle.trays.proofs.Writing.{written-none, padded-none}
+use borrow.Author.Needs.{needs}
+use Rattle.trays.proofs.clear.Statement.{statement}
+use Rattle.trays.proofs.clear.Tie as tie
+
+put-zeros-requires : tie.Need-put-zeros-requires
+put-zeros-requires c κs = search needs
+
+same-length : tie.Need-same-length
+same-length c = search needs
+
+returns : tie.Need-returns
+returns c = λ h. c .before .before .put-zeros .ensures _ [] (written-none _) (omega arith) h ∙ ap (λ (l : List ℕ). over l (c .before .before .before .before .before .args .tray .now)) (padded-none _)
+
+pub clear-spec : {M : Type 1} → statement M
+clear-spec = tie.close (tie.spec put-zeros-requires same-length returns)

@@ -1,0 +1,59 @@
+use Prim.Native.Nat.{ℕ, _≤_, _-_}
+use mathlib.Core.Path.{_≡_}
+use mathlib.Core.List.{List}
+use native.Mathlib.Omega.{arith}
+use lib.ListN.{length}
+use Rattle.trays.specs.Written.{Written}
+use Rattle.trays.proofs.Writing.{Zeros, zeros-start, zeros-next, zeros-within, zeros-end}
+use borrow.Author.Needs.{needs}
+use Rattle.trays.proofs.put_zeros.Statement.{statement}
+use Rattle.trays.proofs.put_zeros.Tie as tie
+
+abbrev Inv-loop : tie.InvT-loop
+Inv-loop tray₀ at end i₀ tray i = (length tray ≡ length tray₀) × ((lent w : List ℕ) → Written lent w at tray₀ → length w ≤ end → end ≤ length lent → Zeros end w lent i tray)
+
+abbrev μ-loop : tie.MeasureT-loop
+μ-loop tray₀ at end i₀ tray i = end - i
+
+loop-holds : tie.Need-loop-holds Inv-loop μ-loop
+loop-holds c = (search needs, λ lent w h f r. zeros-start _ w lent f r h)
+
+same-length : tie.Need-same-length Inv-loop μ-loop
+same-length c = search needs
+
+returns : tie.Need-returns Inv-loop μ-loop
+returns c = λ lent w h f r. absurd (omega (arith, c .if1 .taken, zeros-within _ w lent f r _ (c .before .before .loop .inv .1 lent w h f r) (c .before .loop-test .taken)))
+
+slice-write-tray : tie.Need-slice-write-tray Inv-loop μ-loop
+slice-write-tray c = search needs
+
+add-i : tie.Need-add-i Inv-loop μ-loop
+add-i c = search needs
+
+loop-less : tie.Need-loop-less Inv-loop μ-loop
+loop-less c = search needs
+
+loop-again : tie.Need-loop-again Inv-loop μ-loop
+loop-again c = (search needs, λ lent w h f r. zeros-next _ w lent f r _ (c .before .before .loop .inv .1 lent w h f r) (c .before .loop-test .taken))
+
+same-length-2 : tie.Need-same-length-2 Inv-loop μ-loop
+same-length-2 c = search needs
+
+returns-2 : tie.Need-returns-2 Inv-loop μ-loop
+returns-2 c = λ lent w h f r. zeros-end _ w lent f r _ (c .before .loop .inv .1 lent w h f r) (c .loop-test .left)
+
+pub put-zeros-spec : {M : Type 1} → statement M
+put-zeros-spec =
+    tie.close
+    (tie.spec
+    Inv-loop
+    μ-loop
+    loop-holds
+    same-length
+    returns
+    slice-write-tray
+    add-i
+    loop-less
+    loop-again
+    same-length-2
+    returns-2)
