@@ -30,6 +30,10 @@ or-second : (o p : Option Check) → isRefusal o ≡ false → p ≡ orElse o p
 or-second none p e = refl
 or-second (some c) p e = true-false e
 
+-- what is some check is a refusal
+pub some-refusal : {P : Type 0} {o : Option Check} {c : Check} → o ≡ some c → isRefusal o ≡ false → P
+some-refusal e h = true-false (sym (ap isRefusal e) ∙ h)
+
 -- where one of the checks cs applies, it is found whatever follows; else what follows decides
 pub found-before : (cs ds : List Check) (o : Option Check) → o ≡ firstOf cs → isRefusal o ≡ true → o ≡ firstOf (cs ++ ds)
 found-before cs ds o e h = or-first o (firstOf ds) h ∙ ap (λ (p : Option Check). orElse p (firstOf ds)) e ∙ sym (found-or cs ds)

@@ -22,6 +22,7 @@ abbrev pub checkOf : Checked → Option Check
 checkOf Accepted = none
 checkOf (Refused number place) = some (check number place true)
 
+-- whether a check applies
 abbrev pub isRefusal : Option Check → Bool
 isRefusal none = false
 isRefusal (some c) = true
