@@ -12,27 +12,23 @@ use lib.Seq.{drop-cons}
 use borrow.Author.Tests.{eq-eqb, ne-eqb}
 use Rattle.arrays.specs.Data.{pad}
 use Rattle.arrays.proofs.Laws.{snoc-pad}
-use Rattle.definition.specs.Lists.{upFrom, below}
+use Rattle.definition.specs.Lists.{below}
 use Rattle.definition.specs.Records.{Rec, recordAt, decode, marksFrom, marks}
 use Rattle.definition.specs.Checks.{Check, expandedSize, recordChecks}
+use Rattle.definition.proofs.Lists.{from-get}
 use Rattle.definition.proofs.Accepted.{length-decode}
 use Rattle.checks.specs.declared.Record.{Record}
 use Rattle.checks.specs.Checked.{recordOf, isRefusal, firstOf}
 use Rattle.checks.proofs.Found.{found-before, found-after}
 
 -- ---- the records that are left
-from-at : (n j i : ℕ) → i < n → getD (upFrom n j) i 0 ≡ j + i
-from-at zero j i h = absurd (omega arith)
-from-at (suc n) j zero h = omega arith
-from-at (suc n) j (suc i) h = from-at n (suc j) i (omega arith) ∙ omega arith
-
 module _ (bytes : List ℕ) (i : ℕ) where
   record-next : i < length bytes / 6 → drop i (decode bytes) ≡ recordAt bytes i ∷ drop (suc i) (decode bytes)
   unfolding decode
   record-next h =
       let n = length bytes / 6 in
       let e : getD (decode bytes) i (recordAt bytes 0) ≡ recordAt bytes i
-      = List·getD-map (recordAt bytes) (below n) i 0 ∙ ap (recordAt bytes) (from-at n 0 i h ∙ omega arith) in
+      = List·getD-map (recordAt bytes) (below n) i 0 ∙ ap (recordAt bytes) (from-get n 0 i h ∙ omega arith) in
       drop-cons (decode bytes) i (recordAt bytes 0) (omega (arith, length-decode bytes)) ∙ ap (λ (r : Rec). r ∷ drop (suc i) (decode bytes)) e
 
   record-none : length bytes / 6 ≤ i → drop i (decode bytes) ≡ []

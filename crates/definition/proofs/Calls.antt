@@ -10,13 +10,13 @@ use native.Mathlib.Nat.{pow-suc}
 use lib.ListN.{length, getD}
 use Rattle.definition.specs.Limits.{mostIdentifiers}
 use Rattle.definition.specs.Lists.{Each, below}
-use Rattle.definition.specs.Records.{Rec, numberOf, recordAt, decode, recAt}
+use Rattle.definition.specs.Records.{Rec, Unknown, numberOf, recordAt, decode, made, recAt}
 use Rattle.definition.specs.Flags.{Flags, flagsOf}
 use Rattle.definition.specs.Checks.{Lengths, Check, refused}
 use Rattle.definition.specs.Run.{State, full, stops, run, start, final}
 use Rattle.definition.specs.Trays.{Trays, rowNumber, traysOf, zeroTrays, laidOver}
 use Rattle.definition.specs.Call.{Outcome, Refused, Full, Ended, outcomeOfRun, outcomeBy, outcome, refusal, answerOf, answer, traysAfter, traysLeft, lengthsOf}
-use Rattle.definition.proofs.Lists.{each-both, each-any, each-of-map}
+use Rattle.definition.proofs.Lists.{each-of, each-both, each-any, each-of-map}
 use Rattle.definition.proofs.Accepted.{Accepted, accepted}
 use Rattle.definition.proofs.Forms.{WellFormed}
 use Rattle.definition.proofs.Bounds.{RecordFits, Bounded, run-bounded, bounded-formulas}
@@ -48,8 +48,7 @@ byte (b ∷ bs) h (suc i) = byte bs (h .1) i
 
 each-at : (P : Rec → Type 0) (rs : List Rec) → ((i : ℕ) → i < length rs → P (recAt rs i)) → Each P rs
 unfolding recAt
-each-at P [] h = tt
-each-at P (r ∷ rs) h = (h 0 (omega arith), each-at P rs (λ i l. h (suc i) (omega arith)))
+each-at P = each-of P (made Unknown 0 0)
 
 -- the records of an accepted branch of bytes fit their fields
 pub records-fit : (branch : List ℕ) (flags : ℕ) (lent : Lengths) → Each (λ b. b < 256) branch → Accepted branch flags lent → Each RecordFits (decode branch)

@@ -7,6 +7,7 @@ use Prim.Native.Nat.{ℕ, zero, suc, _<_, _≤_, _+_}
 use native.Mathlib.Omega.{arith}
 use lib.Dec.{eqb}
 use borrow.Author.Tests.{eqb-true, eqb-false}
+use lib.ListN.{length, getD}
 use Rattle.definition.specs.Lists.{any, all, filter, Each, upFrom, below, elem}
 
 pub true-false : {A : Type 0} → true ≡ false → A
@@ -62,6 +63,16 @@ module _ {A : Type 0} where
   pub each-map : {P Q : A → Type 0} → ((x : A) → P x → Q x) → (xs : List A) → Each P xs → Each Q xs
   each-map f [] h = tt
   each-map f (x ∷ xs) h = (f x (h .0), each-map f xs (h .1))
+
+  -- what holds of each element, and of d if there are no more than i, holds of the one at i
+  pub each-get : (P : A → Type 0) (xs : List A) (d : A) → Each P xs → (i : ℕ) → (length xs ≤ i → P d) → P (getD xs i d)
+  each-get P [] d h i k = k (omega arith)
+  each-get P (x ∷ xs) d h zero k = h .0
+  each-get P (x ∷ xs) d h (suc i) k = each-get P xs d (h .1) i (λ l. k (omega arith))
+
+  pub each-of : (P : A → Type 0) (d : A) (xs : List A) → ((i : ℕ) → i < length xs → P (getD xs i d)) → Each P xs
+  each-of P d [] h = tt
+  each-of P d (x ∷ xs) h = (h 0 (omega arith), each-of P d xs (λ i l. h (suc i) (omega arith)))
 
   pub each-both : {P Q R : A → Type 0} → ((x : A) → P x → Q x → R x) → (xs : List A) → Each P xs → Each Q xs → Each R xs
   each-both f [] h k = tt
@@ -225,3 +236,9 @@ filter-keeps P p xs h = each-map (λ x (k : P x × (p x ≡ true)). k .0) (filte
 -- two numbers are equal or not
 pub alike : (x y : ℕ) → (x ≡ y) ⊎ (x ≢ y)
 alike x y = ⊎-elim (λ q. inl (eqb-true x y q)) (λ q. inr (eqb-false x y q)) (either (eqb x y))
+
+-- number k of those upward from s
+pub from-get : (n s k : ℕ) → k < n → getD (upFrom n s) k 0 ≡ s + k
+from-get zero s k h = absurd (omega arith)
+from-get (suc n) s zero h = omega arith
+from-get (suc n) s (suc k) h = from-get n (suc s) k (omega arith) ∙ omega arith

@@ -22,15 +22,15 @@ length-padded : (n : ℕ) (s : List ℕ) → length s ≤ n → length (padded n
 unfolding padded
 length-padded n s h = omega (arith, h, length-append s (replicate (n - length s) 0), length-replicate {A = ℕ} (n - length s) 0)
 
-length-parts : {A : Type 0} (k : ℕ) (f : A → List ℕ) → ((x : A) → length (f x) ≡ k) → (xs : List A) → length (concatMap f xs) ≡ k * length xs
+pub length-parts : {A : Type 0} (k : ℕ) (f : A → List ℕ) → ((x : A) → length (f x) ≡ k) → (xs : List A) → length (concatMap f xs) ≡ k * length xs
 length-parts k f h [] = omega arith
 length-parts k f h (x ∷ xs) = simp length-append (omega (arith, h x, length-parts k f h xs))
 
-node-length : (n : Node) → length (nodeBytes n) ≡ 12
+pub node-length : (n : Node) → length (nodeBytes n) ≡ 12
 unfolding nodeBytes
 node-length n = refl
 
-record-length : (r : Rec) → length (recordBytes r) ≡ 6
+pub record-length : (r : Rec) → length (recordBytes r) ≡ 6
 unfolding recordBytes
 record-length r = refl
 

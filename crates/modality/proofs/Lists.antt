@@ -10,9 +10,9 @@ use lib.Dec.{eqb}
 use lib.ListN.{length, getD, take, drop, drop-of-length-le}
 use lib.Seq.{take-suc, take-all, drop-cons}
 use borrow.Author.Tests.{eqb-true, eqb-false, eq-eqb, ne-eqb}
-use Rattle.definition.specs.Lists.{any, elem, filter, upFrom, below}
+use Rattle.definition.specs.Lists.{any, elem, filter, below}
 use Rattle.definition.specs.Modality.{Necessity, runsThrough}
-use Rattle.definition.proofs.Lists.{either}
+use Rattle.definition.proofs.Lists.{either, from-get}
 use Rattle.tree.proofs.Paths.{filter-append}
 
 eqb-sym : (x y : ℕ) → eqb x y ≡ eqb y x
@@ -81,13 +81,8 @@ filter-both p q (x ∷ xs) = go (q x) (p x) refl refl (filter-both p q xs)
     go true false e f r = rw (e, f) r
     go false b e f r = rw e r
 
-up-get : (n s k : ℕ) → k < n → s + k ≡ getD (upFrom n s) k 0
-up-get zero s k h = absurd (omega arith)
-up-get (suc n) s zero h = omega arith
-up-get (suc n) s (suc k) h = omega arith ∙ up-get n (suc s) k (omega arith)
-
 pub below-get : (n k : ℕ) → k < n → k ≡ getD (below n) k 0
-below-get n k h = omega arith ∙ up-get n 0 k h
+below-get n k h = omega arith ∙ sym (from-get n 0 k h)
 
 -- ---- tests one after the other: the first answers, or the second does
 module _ {x a : Bool} (e : x ≡ a) where

@@ -16,12 +16,12 @@ use Rattle.definition.specs.Lists.{Each, Distinct, empty}
 use Rattle.definition.specs.Graph.{Graph}
 use Rattle.definition.specs.Tree.{Node}
 use Rattle.definition.specs.Modality.{Necessity, visiting, leavesOf, unvisited}
-use Rattle.definition.proofs.Lists.{each-map, each-reverse}
+use Rattle.definition.proofs.Lists.{each-map, each-get, each-reverse}
 use Rattle.definition.proofs.Issued.{distinct-reverse}
 use Rattle.necessities.specs.Stored.{Row}
 use Rattle.necessities.specs.Change.{Kept, Added}
 use Rattle.necessities.specs.Stack.{Rows, Stack, fresh, visits}
-use Rattle.necessities.proofs.Tables.{each-get, kept-same, kept-then, clear-kept, clear-here}
+use Rattle.necessities.proofs.Tables.{kept-same, kept-then, clear-kept, clear-here}
 use Rattle.necessities.proofs.Turned.{get-reverse}
 
 -- from r to t the numbers of every row but row k stay
@@ -181,7 +181,7 @@ module _ (r a v v′ l : List ℕ) (none : Necessity) where
   rows-visit (n ∷ ns) (k ∷ ks) zero b d p h =
       (row-visits n k p (h .0), rows-other k r a v r a v′ (λ q e. refl) (kept-same k a) (p .kept) ns ks (d .0) (h .1))
   rows-visit (n ∷ ns) (k ∷ ks) (suc i) b d p h =
-      let e : getD ks i 0 ≢ k = each-get (λ y. y ≢ k) ks i 0 (d .0) (omega arith) in
+      let e : getD ks i 0 ≢ k = each-get (λ y. y ≢ k) ks 0 (d .0) i (λ g. absurd (omega arith)) in
       (row-other (getD ks i 0) r a v r a v′ (λ q e. refl) (kept-same (getD ks i 0) a) (p .kept) n k (λ q. e (sym q)) (h .0), rows-visit ns ks i (omega arith) (d .1) p (h .1))
 
 pub stack-visit : {ns : List Necessity} {count : ℕ} {o r a v v′ : List ℕ} (l : List ℕ) (none : Necessity) (i k : ℕ) (s : Stack ns count o r a v) → i < count → k ≡ getD (s .ks) i 0

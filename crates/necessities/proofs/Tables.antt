@@ -14,13 +14,9 @@ use Rattle.arrays.specs.Listed.{Listed}
 use Rattle.arrays.proofs.Listed.{listed-count}
 use Rattle.bits.specs.Bits.{bitAt, Bits}
 use Rattle.definition.specs.Lists.{Each, elem}
+use Rattle.definition.proofs.Lists.{each-get}
 use Rattle.necessities.specs.Stored.{InRow}
 use Rattle.necessities.specs.Change.{Kept, Added}
-
-pub each-get : {A : Type 0} (P : A → Type 0) (l : List A) (i : ℕ) (d : A) → Each P l → i < length l → P (getD l i d)
-each-get P [] i d h b = absurd (omega arith)
-each-get P (x ∷ l) zero d h b = h .0
-each-get P (x ∷ l) (suc i) d h b = each-get P l i d (h .1) (omega arith)
 
 elem-append : (y : ℕ) (l m : List ℕ) → elem y (l ++ m) ≡ (elem y l || elem y m)
 elem-append y [] m = refl
@@ -109,7 +105,7 @@ pub insert-next : (k : ℕ) {l a b c w : List ℕ} (i x m : ℕ) → k < 512 →
     → ((p : ℕ → Bool) → Bits p b → Bits (λ j. eqb j (k * 512 + x) || p j) c) → Added k (take i l) a b → Added k (take (i + 1) l) a c
 insert-next k {l} {a} {b} {c} i x m r h p n small e insert d =
     let t : i < length l = omega (arith, listed-count p n) in
-    let q : x < 512 = rw e (each-get (λ y. y < 512) l i 0 small t) in
+    let q : x < 512 = rw e (each-get (λ y. y < 512) l 0 small i (λ g. absurd (omega (arith, g, t)))) in
     rw (add-one, take-suc l i 0 t, ← e) (added-then d (insert-added k x b c r q insert))
 
 pub insert-end : {k : ℕ} {l a b w : List ℕ} (i m : ℕ) → m ≤ i → Listed l m w → m ≤ 512 → Added k (take i l) a b → Added k l a b

@@ -4,9 +4,9 @@ use mathlib.Core.Bool.{Bool, true, false, cond}
 use mathlib.Core.List.{List, [], _∷_, _++_}
 use mathlib.Core.Option.{Option, none, some}
 use mathlib.Core.Logic.{_⊎_, inl, inr}
-use Prim.Native.Nat.{ℕ, suc, _≤_, _<_, _/_}
+use Prim.Native.Nat.{ℕ, _≤_, _<_, _/_}
 use native.Mathlib.Omega.{arith}
-use lib.ListN.{length, getD}
+use lib.ListN.{length}
 use Rattle.definition.specs.Limits.{mostWorlds}
 use Rattle.definition.specs.Lists.{Each, find, empty}
 use Rattle.definition.specs.Records.{Rec, Unknown, nobody, made, decode, recAt, marks}
@@ -18,7 +18,7 @@ use Rattle.definition.specs.Trays.{Trays, zeroTrays, laidOver}
 use Rattle.definition.specs.Checks.{Check, check, recordChecks, checks, refused}
 use Rattle.definition.specs.Call.{Outcome, Refused, Full, Ended, Answer, refusal, outcomeOfRun, outcomeBy, outcome, answerOf, answer, traysAfter, traysLeft, lengthsOf}
 use Rattle.definition.specs.Claim.{Proved}
-use Rattle.definition.proofs.Lists.{each-append, each-any}
+use Rattle.definition.proofs.Lists.{each-of, each-append, each-any}
 use Rattle.definition.proofs.Edges.{init-one, init-less}
 use Rattle.definition.proofs.Bounds.{bounded-formulas, bounded-steps}
 use Rattle.definition.proofs.Accepted.{Accepted, accepted, length-decode}
@@ -32,10 +32,6 @@ use Rattle.proof.specs.Kept.{Flagged, Kept}
 use Rattle.prover.specs.Contract.{Contract}
 use Rattle.prover.specs.Said.{worldsOf}
 use Rattle.prover.specs.Parts.{Fits, Ends, Sized}
-
-each-of : {A : Type 0} (P : A → Type 0) (d : A) (xs : List A) → ((i : ℕ) → i < length xs → P (getD xs i d)) → Each P xs
-each-of P d [] h = tt
-each-of P d (x ∷ xs) h = (h 0 (omega arith), each-of P d xs (λ i l. h (suc i) (omega arith)))
 
 find-each : {A : Type 0} (P : A → Type 0) (p : A → Bool) (xs : List A) (x : A) → Each P xs → find p xs ≡ some x → P x
 find-each P p [] x h e = let o : _≡_ {A = ℕ} 0 1 = cc in absurd (omega arith)

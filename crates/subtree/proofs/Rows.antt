@@ -15,7 +15,7 @@ use Rattle.arrays.proofs.Laws.{getD-pad, snoc-pad}
 use Rattle.definition.specs.Lists.{upFrom, concatMap, Each}
 use Rattle.definition.specs.Tree.{Node}
 use Rattle.definition.specs.Subtree.{Subtree, Targeted, Placed, flat, withMiddle, appendSubtree, appendLogicRuleResult}
-use Rattle.definition.proofs.Lists.{true-false, each-map, each-append}
+use Rattle.definition.proofs.Lists.{true-false, each-map, each-get, each-append}
 use Rattle.definition.proofs.Nodes.{ext-subtree, ext-result}
 use Rattle.definition.proofs.Issued.{length-from}
 use Rattle.tree.specs.Lay.{Held}
@@ -142,11 +142,6 @@ cells-read (r ∷ rs) (suc k) j h b =
     let z : suc k * 3 + j ≡ 3 + (k * 3 + j) = omega arith in
     ap (λ (i : ℕ). getD (concatMap cells (r ∷ rs)) i 0) z ∙ getD-append-add (cells r) (concatMap cells rs) (k * 3 + j) 0 ∙ cells-read rs k j (omega arith) b
 
-each-get : (P : Row → Type 0) (rs : List Row) (k : ℕ) → k < length rs → Each P rs → P (getD rs k noRow)
-each-get P [] k h e = absurd (omega arith)
-each-get P (r ∷ rs) zero h e = e .0
-each-get P (r ∷ rs) (suc k) h e = each-get P rs k (omega arith) (e .1)
-
 -- rows whose identifiers fit
 module _ {rs : List Row} {n m : ℕ} {a : List ℕ} (g : m ≤ 512) where
   pub rows-count : Rows rs n a m → (length (filled rs) ≡ n) × (n ≤ 512)
@@ -160,7 +155,7 @@ module _ {rs : List Row} {n m : ℕ} {a : List ℕ} (g : m ≤ 512) where
 
   row-below : (k : ℕ) → k < n → Rows rs n a m → getD (filled rs) k noRow .start + getD (filled rs) k noRow .count ≤ m
   row-below k h (tooMany b e) = absurd (omega arith)
-  row-below k h (rows b d e q w) = each-get (λ (r : Row). r .start + r .count ≤ m) (filled rs) k (omega arith) w
+  row-below k h (rows b d e q w) = each-get (λ (r : Row). r .start + r .count ≤ m) (filled rs) noRow w k (λ g. absurd (omega arith))
 
 -- ---- the loop of `append_logic_rule_result`: the rows that are left lead to the goal
 pub record Joining (goal : Placed) (rest : List Row) (low : ℕ) (r : Counts) (a w : List ℕ) : Type 0 where

@@ -10,14 +10,6 @@ use Rattle.definition.specs.Tree.{Node, Place, Root, Left, Middle, Right, Unpla
 use Rattle.definition.specs.Trays.{two, nodeBytes, recordBytes}
 use Rattle.tree.specs.Lay.{placeCode}
 
-pub node-length : (x : Node) → length (nodeBytes x) ≡ 12
-unfolding nodeBytes
-node-length x = refl
-
-pub record-length : (r : Rec) → length (recordBytes r) ≡ 6
-unfolding recordBytes
-record-length r = refl
-
 -- the low byte of a number below 256
 pub low-same : {b n m : ℕ} → b ≡ n % 256 → n ≡ m → m < 256 → b ≡ m
 low-same p q h = omega arith

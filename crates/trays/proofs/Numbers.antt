@@ -11,12 +11,11 @@ use lib.Seq.{drop-cons}
 use Rattle.arrays.specs.Data.{pad}
 use Rattle.arrays.proofs.Laws.{getD-pad}
 use Rattle.definition.specs.Lists.{Each}
-use Rattle.definition.proofs.Lists.{each-map}
+use Rattle.definition.proofs.Lists.{each-map, each-get}
 use Rattle.definition.specs.Graph.{Graph, edge}
 use Rattle.definition.specs.Trays.{rowNumber, padded, over}
 use Rattle.graph.specs.Drawn.{Drawn}
 use Rattle.trays.proofs.Writing.{Writing, written-none, writing-start, writing-one, writing-within, writing-end, padded-length}
-use Rattle.trays.proofs.Parts.{each-get}
 
 -- ---- one row
 abbrev pub rowOf : Graph → ℕ → List Bool

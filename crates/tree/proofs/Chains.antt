@@ -10,17 +10,13 @@ use lib.ListN.{length, getD, drop, length-reverse, drop-of-length-le}
 use lib.Seq.{drop-cons}
 use Rattle.definition.specs.Lists.{upFrom}
 use Rattle.definition.specs.Tree.{Node, Place, Middle, link, linkChain}
+use Rattle.definition.proofs.Lists.{from-get}
 use Rattle.definition.proofs.Nodes.{length-chain}
 use Rattle.definition.proofs.Issued.{length-from}
 use Rattle.tree.specs.declared.Chain.{Chain}
 use Rattle.tree.specs.Chain.{chainOf, Below}
 use Rattle.tree.specs.Lay.{placeCode, Held}
 use Rattle.tree.proofs.Nodes.{held-ok, held-long, held-as}
-
-up-get : (n s k : ℕ) → k < n → getD (upFrom n s) k 0 ≡ s + k
-up-get zero s k h = absurd (omega arith)
-up-get (suc n) s zero h = omega arith
-up-get (suc n) s (suc k) h = up-get n (suc s) k (omega arith) ∙ omega arith
 
 past : (l r : List ℕ) (k : ℕ) → getD (reverseAux l r) (length l + k) 0 ≡ getD r k 0
 past [] r k = ap (λ (j : ℕ). getD r j 0) (omega arith)
@@ -44,7 +40,7 @@ module _ (c : Chain) where
 
   pub chain-up : (k : ℕ) → c .rising ≡ true → k < c .count → c .start + k ≡ getD (chainOf c) k 0
   unfolding chainOf
-  chain-up k e h = rw e (sym (up-get (c .count) (c .start) k h))
+  chain-up k e h = rw e (sym (from-get (c .count) (c .start) k h))
 
   pub chain-down : (k : ℕ) → c .rising ≡ false → k < c .count → c .start + (c .count - 1 - k) ≡ getD (chainOf c) k 0
   unfolding chainOf

@@ -8,8 +8,9 @@ use Rattle.definition.specs.Records.{Rec, recAt}
 use Rattle.definition.specs.Trays.{recordBytes}
 use Rattle.formula.specs.Recorded.{Recorded, missing}
 use Rattle.formula.proofs.Recorded.{recorded-count}
-use Rattle.trays.proofs.Bytes.{record-length}
-use Rattle.trays.proofs.Parts.{Parts, each-get, parts-length, parts-start, parts-next, parts-end}
+use Rattle.definition.proofs.Lists.{each-get}
+use Rattle.definition.proofs.TraysKept.{length-parts, record-length}
+use Rattle.trays.proofs.Parts.{Parts, parts-start, parts-next, parts-end}
 use borrow.Author.Needs.{needs}
 use Rattle.trays.proofs.write_formulas.Statement.{statement}
 use Rattle.trays.proofs.write_formulas.Tie as tie
@@ -52,7 +53,7 @@ same-length-2 : tie.Need-same-length-2 Inv-loop μ-loop
 same-length-2 c = search needs
 
 returns-2 : tie.Need-returns-2 Inv-loop μ-loop
-returns-2 c = λ rs p l h r. let e = recorded-count p l in c .before .before .put-zeros .ensures (c .before .before .before .before .before .before .before .args .tray .now) (concatMap recordBytes rs) (parts-end recordBytes 6 record-length rs _ (c .before .before .before .before .before .loop .i) (c .before .before .before .before .before .loop .inv .1 rs p l h r) (omega (arith, c .before .before .before .before .loop-test .left))) (omega (arith, parts-length recordBytes 6 record-length rs)) r
+returns-2 c = λ rs p l h r. let e = recorded-count p l in c .before .before .put-zeros .ensures (c .before .before .before .before .before .before .before .args .tray .now) (concatMap recordBytes rs) (parts-end recordBytes 6 record-length rs _ (c .before .before .before .before .before .loop .i) (c .before .before .before .before .before .loop .inv .1 rs p l h r) (omega (arith, c .before .before .before .before .loop-test .left))) (omega (arith, length-parts 6 recordBytes record-length rs)) r
 
 pub write-formulas-spec : {M : Type 1} → statement M
 write-formulas-spec =

@@ -8,8 +8,9 @@ use Rattle.definition.specs.Tree.{Node}
 use Rattle.definition.specs.Trays.{nodeBytes}
 use Rattle.definition.proofs.Nodes.{blank}
 use Rattle.tree.specs.Lay.{lay}
-use Rattle.trays.proofs.Bytes.{node-length}
-use Rattle.trays.proofs.Parts.{Parts, each-get, parts-length, parts-start, parts-next, parts-end}
+use Rattle.definition.proofs.Lists.{each-get}
+use Rattle.definition.proofs.TraysKept.{length-parts, node-length}
+use Rattle.trays.proofs.Parts.{Parts, parts-start, parts-next, parts-end}
 use borrow.Author.Needs.{needs}
 use Rattle.trays.proofs.write_nodes.Statement.{statement}
 use Rattle.trays.proofs.write_nodes.Tie as tie
@@ -51,7 +52,7 @@ same-length-2 : tie.Need-same-length-2 Inv-loop μ-loop
 same-length-2 c = search needs
 
 returns-2 : tie.Need-returns-2 Inv-loop μ-loop
-returns-2 c = λ ns e l q h r. c .before .before .put-zeros .ensures (c .before .before .before .before .before .before .before .args .tray .now) (concatMap nodeBytes ns) (parts-end nodeBytes 12 node-length ns _ (c .before .before .before .before .before .loop .i) (c .before .before .before .before .before .loop .inv .1 ns e l q h r) (omega (arith, c .before .before .before .before .loop-test .left))) (omega (arith, parts-length nodeBytes 12 node-length ns)) r
+returns-2 c = λ ns e l q h r. c .before .before .put-zeros .ensures (c .before .before .before .before .before .before .before .args .tray .now) (concatMap nodeBytes ns) (parts-end nodeBytes 12 node-length ns _ (c .before .before .before .before .before .loop .i) (c .before .before .before .before .before .loop .inv .1 ns e l q h r) (omega (arith, c .before .before .before .before .loop-test .left))) (omega (arith, length-parts 12 nodeBytes node-length ns)) r
 
 pub write-nodes-spec : {M : Type 1} → statement M
 write-nodes-spec =

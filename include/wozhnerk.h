@@ -1,0 +1,108 @@
+/* The tableau prover for C and C++. `rt staticlib prover` writes target/staticlib/libprover.a, for x86-64 Linux. */
+#ifndef WOZHNERK_H
+#define WOZHNERK_H
+
+#include <stdbool.h>
+#include <stddef.h>
+#include <stdint.h>
+
+#ifdef __cplusplus
+extern "C" {
+#endif
+
+/* The branch: 6-byte records, no header. A record: kind (0), mark (1), two fields of 16 bits, low byte first (2-3, 4-5).
+ *   kind 0 Atomic                                      atom number, zero
+ *   kind 1 Non, 7 Possible, 8 Necessary                record number, zero
+ *   kind 2 And, 3 Or, 4 Imply, 5 BiImply, 6 StrictImply   two record numbers
+ * Record numbers count from 0 and point to earlier records. Records with mark 1, in order, form the branch. */
+enum {
+    WOZHNERK_RECORD_LENGTH = 6,
+    WOZHNERK_MOST_RECORDS = 256,
+    WOZHNERK_MOST_MARKED = 64,
+    WOZHNERK_LARGEST_FORMULA = 4096 /* connectives and atoms of a record written out */
+};
+
+/* The flags, added up. */
+enum {
+    WOZHNERK_REFLEXIVE = 1,
+    WOZHNERK_SYMMETRIC = 2,
+    WOZHNERK_TRANSITIVE = 4,
+    WOZHNERK_SKIP_CONTRADICTION_CHECKS = 8
+};
+
+/* The trays: lengths that each must have at least. Only these lengths are written; anything beyond stays.
+ * nodes     a record of 12 bytes for each identifier, in order; 16-bit numbers low byte first, 65535 for none:
+ *             0-1 parent; 2 place (0 root, 1 left, 2 middle, 3 right, 4 never placed in the tree); 3 world;
+ *             4-5 formula number (65535: a comment); 6-7 spawner; 8-9 contrarian; 10 contradictory (0 or 1); 11 zero
+ * formulas  records as in the branch: those of the branch, then the made ones with mark 0
+ * edges     bit v of number u says that world u reaches world v
+ * The rest of each length is zero. */
+enum {
+    WOZHNERK_NODES_LENGTH = 6144,    /* bytes: 512 records */
+    WOZHNERK_FORMULAS_LENGTH = 7680, /* bytes: 1,280 records */
+    WOZHNERK_EDGES_LENGTH = 25,      /* numbers of 32 bits */
+    WOZHNERK_NODE_LENGTH = 12,
+    WOZHNERK_NONE = 65535
+};
+
+/* Refusals, checked in this order: 1 to 5, then record by record 6 to 9, then 10 to 12. Document 01's word comes first. */
+enum wozhnerk_refusal {
+    WOZHNERK_PARTIAL_RECORD = 1,      /* torn: length not a multiple of 6 */
+    WOZHNERK_NO_RECORD = 2,           /* blank: no record */
+    WOZHNERK_TOO_MANY_RECORDS = 3,    /* overlong: more than 256 records */
+    WOZHNERK_UNKNOWN_FLAG = 4,        /* bad tick: flag byte 16 or more */
+    WOZHNERK_TRAY_TOO_SHORT = 5,      /* short tray: a tray below its length */
+    WOZHNERK_UNKNOWN_KIND = 6,        /* unknown stain: kind above 8 */
+    WOZHNERK_BAD_MARK_OR_FIELD = 7,   /* stray mark: mark above 1, or a zero field not zero */
+    WOZHNERK_FORWARD_LINK = 8,        /* forward link: a link to itself or later */
+    WOZHNERK_FORMULA_TOO_LARGE = 9,   /* oversize: expanded size above 4,096 */
+    WOZHNERK_NO_MARKED_RECORD = 10,   /* unmarked: no marked record */
+    WOZHNERK_TOO_MANY_MARKED = 11,    /* crowded: more than 64 marked */
+    WOZHNERK_TOO_MANY_IDENTIFIERS = 12 /* full: the run issues more than 512 identifiers */
+};
+
+/* The call. Lengths of branch, nodes and formulas are in bytes, that of edges in numbers.
+ *
+ * What the caller owes; nothing checks it:
+ * - each pointer is valid for its length: branch for reading, the trays for reading and writing. A pointer with length 0
+ *   is never followed, and may be null;
+ * - edges is aligned to 4 bytes;
+ * - no tray overlaps another tray or the branch;
+ * - no other thread writes the branch, or reads or writes the trays, until the call returns;
+ * - the thread has 256 KiB of stack left.
+ * Any byte string, flag byte, lengths and old contents of the trays are allowed. The call keeps nothing between calls, and
+ * several threads may call at once.
+ *
+ * What the call promises (docs/ARCHITECTURE.md, "Where each demand stands", names statement and proof of each):
+ * 1. it ends, and answers one verdict or one refusal; refusals 1 to 11 leave the trays as lent, 12 zeroes their lengths;
+ * 2. answer and trays are those of document 01's run, whose rules are Priest's, and 12 comes exactly when that run passes
+ *    512 identifiers;
+ * 3. if the answer is a verdict with `proved`, no world of any finite Kripke model with the flagged properties makes every
+ *    formula of the branch true (symmetric and transitive without reflexive: no world that reaches some world).
+ *
+ * The answer is one number.
+ *   verdict   bit 63 is 0; bits 0-15 identifiers, 16-31 formulas, 32-47 steps, 48-55 worlds, 56 proved, 57 late; others 0
+ *   refusal   bit 63 is 1; bits 0-15 record number (0 outside refusals 6 to 9), 16-31 number; others 0
+ * Proved and late may both be true. Neither is "open", which claims nothing about models. */
+uint64_t wozhnerk_prove(const uint8_t *branch, size_t branch_length, uint8_t flags, uint8_t *nodes, size_t nodes_length,
+                        uint8_t *formulas, size_t formulas_length, uint32_t *edges, size_t edges_length);
+
+static inline bool wozhnerk_is_refusal(uint64_t answer) { return answer >> 63 != 0; }
+
+/* Of a refusal. */
+static inline enum wozhnerk_refusal wozhnerk_refusal_number(uint64_t answer) { return (enum wozhnerk_refusal)(answer >> 16 & 65535); }
+static inline unsigned wozhnerk_refusal_record(uint64_t answer) { return (unsigned)(answer & 65535); }
+
+/* Of a verdict. `proved` is false of a refusal too. */
+static inline bool wozhnerk_proved(uint64_t answer) { return !wozhnerk_is_refusal(answer) && (answer >> 56 & 1) != 0; }
+static inline bool wozhnerk_late(uint64_t answer) { return !wozhnerk_is_refusal(answer) && (answer >> 57 & 1) != 0; }
+static inline unsigned wozhnerk_identifiers(uint64_t answer) { return (unsigned)(answer & 65535); }
+static inline unsigned wozhnerk_formulas(uint64_t answer) { return (unsigned)(answer >> 16 & 65535); }
+static inline unsigned wozhnerk_steps(uint64_t answer) { return (unsigned)(answer >> 32 & 65535); }
+static inline unsigned wozhnerk_worlds(uint64_t answer) { return (unsigned)(answer >> 48 & 255); }
+
+#ifdef __cplusplus
+}
+#endif
+
+#endif
