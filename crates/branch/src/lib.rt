@@ -13,7 +13,7 @@ use tree::link_chain;
 use tree::new_node;
 ghost use mathlib.Core.Path.{_≡_};
 ghost use mathlib.Core.List.{List, [], reverse};
-ghost use Prim.Native.Nat.{ℕ, _≤_, _/_};
+ghost use Prim.Native.Nat.{_≤_, _/_};
 ghost use lib.ListN.{length};
 ghost use Rattle.arrays.specs.Listed.{Listed};
 ghost use Rattle.definition.specs.Lists.{below};

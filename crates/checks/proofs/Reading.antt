@@ -1,5 +1,5 @@
 -- The loops over the records of a branch.
-use Prim.Native.Nat.{ℕ, zero, suc, _+_, _<_, _≤_, _/_}
+use Prim.Native.Nat.{ℕ, suc, _+_, _<_, _≤_, _/_}
 use mathlib.Core.Path.{_≡_, refl, sym, ap, _∙_}
 use mathlib.Core.Bool.{true, false}
 use mathlib.Core.List.{List, [], _∷_, _++_}

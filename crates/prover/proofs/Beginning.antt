@@ -11,7 +11,7 @@ use Rattle.definition.specs.Records.{Rec, decode, marks}
 use Rattle.definition.specs.Flags.{Flags}
 use Rattle.definition.specs.Graph.{emptyGraph}
 use Rattle.definition.specs.Tree.{leaves}
-use Rattle.definition.specs.Run.{State, rooted, branchNodes, begun, start, checkForContradictions}
+use Rattle.definition.specs.Run.{rooted, branchNodes, begun, start, checkForContradictions}
 use Rattle.definition.proofs.Accepted.{length-decode}
 use Rattle.definition.proofs.Count.{length-rooted}
 use Rattle.definition.proofs.Treed.{leaves-few}

@@ -1,26 +1,23 @@
 -- What a run that has stopped leaves: the answer, and the trays.
-use mathlib.Core.Path.{_≡_, refl, sym, ap, _∙_, subst}
-use mathlib.Core.Bool.{Bool, true, false, cond}
+use mathlib.Core.Path.{_≡_, refl, sym, _∙_}
+use mathlib.Core.Bool.{true, false}
 use mathlib.Core.List.{List, map}
-use mathlib.Core.Logic.{_⊎_, inl, inr}
 use Prim.Native.Nat.{ℕ, _≤_, _<_}
 use native.Mathlib.Omega.{arith}
 use lib.Dec.{leb}
 use lib.ListN.{length, replicate}
 use borrow.Author.Tests.{lt-ltb, le-ltb}
-use Rattle.definition.specs.Limits.{nodeTrayLength, formulaTrayLength, edgeTrayLength, mostWorlds}
-use Rattle.definition.specs.Lists.{Each, concatMap}
-use Rattle.definition.specs.Tree.{Node}
-use Rattle.definition.specs.Records.{Rec}
+use Rattle.definition.specs.Limits.{nodeTrayLength, formulaTrayLength, edgeTrayLength}
+use Rattle.definition.specs.Lists.{concatMap}
 use Rattle.definition.specs.Run
 use Rattle.definition.specs.Run.{State}
 use Rattle.definition.specs.Trays.{Trays, nodeBytes, recordBytes, rowNumber, padded, over, traysOf, zeroTrays, laidOver}
-use Rattle.definition.specs.Call.{Outcome, Full, Ended, Answer, refusal, verdict, outcomeOfRun, answerOf, traysAfter, late}
+use Rattle.definition.specs.Call.{refusal, verdict, outcomeOfRun, answerOf, traysAfter, late}
 use Rattle.formula.proofs.Recorded.{recorded-fits, recorded-count}
 use Rattle.proof.specs.declared.Progress.{Progress}
 use Rattle.proof.specs.Kept.{Laid, Kept, kept, full}
 use Rattle.prover.specs.Contract.{trays}
-use Rattle.prover.specs.Parts.{Fits, Sized}
+use Rattle.prover.specs.Parts.{Fits}
 
 module _ {s : State} {p : Progress} {fa ta ea ra la va oa wa : List ℕ} where
   kept-full : Kept s p fa ta ea ra la va oa wa → 512 < p .nodes → Run.full s ≡ true

@@ -1,7 +1,7 @@
 -- The whole call, from its parts.
 use mathlib.Core.Path.{_≡_, refl, sym, ap, _∙_, subst}
 use mathlib.Core.Bool.{Bool, true, false, cond}
-use mathlib.Core.List.{List, [], _∷_, _++_}
+use mathlib.Core.List.{List, [], _∷_}
 use mathlib.Core.Option.{Option, none, some}
 use mathlib.Core.Logic.{_⊎_, inl, inr}
 use Prim.Native.Nat.{ℕ, _≤_, _<_, _/_}
@@ -31,7 +31,7 @@ use Rattle.proof.specs.declared.Progress.{Progress}
 use Rattle.proof.specs.Kept.{Flagged, Kept}
 use Rattle.prover.specs.Contract.{Contract}
 use Rattle.prover.specs.Said.{worldsOf}
-use Rattle.prover.specs.Parts.{Fits, Ends, Sized}
+use Rattle.prover.specs.Parts.{Ends, Sized}
 
 find-each : {A : Type 0} (P : A → Type 0) (p : A → Bool) (xs : List A) (x : A) → Each P xs → find p xs ≡ some x → P x
 find-each P p [] x h e = let o : _≡_ {A = ℕ} 0 1 = cc in absurd (omega arith)

@@ -1,10 +1,9 @@
 -- The answer in one number, and what it says.
-use mathlib.Core.Path.{_≡_, refl, sym, ap, _∙_}
+use mathlib.Core.Path.{_≡_, refl, ap, _∙_}
 use mathlib.Core.Bool.{Bool, true, false, cond}
 use Prim.Native.Nat.{ℕ, _≤_, _<_, _+_, _*_, _/_, _%_}
 use native.Mathlib.Omega.{arith}
 use lib.Dec.{eqb}
-use borrow.Author.Tests.{ne-eqb}
 use Rattle.definition.specs.Call.{refusal, verdict}
 use Rattle.prover.specs.Said.{read}
 

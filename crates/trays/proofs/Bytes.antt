@@ -4,7 +4,6 @@ use mathlib.Core.Path.{_≡_, refl}
 use mathlib.Core.Bool.{cond}
 use mathlib.Core.List.{[], _∷_, _++_}
 use native.Mathlib.Omega.{arith}
-use lib.ListN.{length}
 use Rattle.definition.specs.Records.{Kind, Rec, Atomic, Non, And, Or, Imply, BiImply, StrictImply, Possible, Necessary, Unknown, Comment, numberOf}
 use Rattle.definition.specs.Tree.{Node, Place, Root, Left, Middle, Right, Unplaced, placeNumber, isContradictory}
 use Rattle.definition.specs.Trays.{two, nodeBytes, recordBytes}

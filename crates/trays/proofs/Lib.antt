@@ -2,3 +2,5 @@ pub mod Writing
 pub mod Parts
 pub mod Bytes
 pub mod Numbers
+pub mod Again
+pub mod Walks

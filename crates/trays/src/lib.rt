@@ -30,6 +30,7 @@ ghost use Rattle.tree.specs.Lay.{placeCode, lay};
 ghost use Rattle.formula.specs.Recorded.{Recorded};
 ghost use Rattle.graph.specs.Drawn.{Drawn};
 ghost use Rattle.trays.specs.Written.{Written, Puts};
+ghost use Rattle.trays.specs.Appended.{SameTray, Appends};
 
 fn low(n: u16) -> u8
     ensures { λ r. ⌜ r ≡ n % 256 ⌝ }
@@ -119,6 +120,41 @@ fn put_node(tray: &mut [u8], at: usize, tree: &[u16; 4608], x: ProofTreeNodeID) 
     put(tray, g, 0)
 }
 
+// The node tray that is lent, and the position of the next record.
+struct NodeWriter<'a> {
+    tray: &'a mut [u8],
+    at: usize,
+}
+
+// A writer of a tray, from a position.
+fn writer<'a>(tray: &'a mut [u8], at: usize) -> NodeWriter<'a>
+    ensures { λ r. ⌜ (r .tray ≡ tray .entry) × (r .at ≡ at) ⌝ }
+{
+    NodeWriter { tray: tray, at: at }
+}
+
+// The record of node x is appended: the writer is handed back at the position after it.
+fn append<'a>(w: NodeWriter<'a>, tree: &[u16; 4608], x: ProofTreeNodeID) -> NodeWriter<'a>
+    ensures { λ r. ⌜ SameTray (w .entry) r × ((ns : List Node) → length ns ≤ 512 → now (tree .entry) ≡ lay ns → nodeAt ns (x .0) .world < 256
+        → Appends (nodeBytes (nodeAt ns (x .0))) (w .entry) r) ⌝ }
+{
+    let at = w.at;
+    let next = put_node(&mut *w.tray, at, tree, x);
+    NodeWriter {
+        tray: w.tray,
+        at: next,
+    }
+}
+
+// The record of node x, appended by a writer.
+fn append_node(tray: &mut [u8], at: usize, tree: &[u16; 4608], x: ProofTreeNodeID) -> usize
+    ensures { λ r. ⌜ ((ns : List Node) → length ns ≤ 512 → now (tree .entry) ≡ lay ns → nodeAt ns (x .0) .world < 256
+        → Puts (nodeBytes (nodeAt ns (x .0))) at (now (tray .entry)) r (now (tray .exit))) ⌝ }
+{
+    let w = append(writer(tray, at), tree, x);
+    w.at
+}
+
 // The node tray: the records in order of identifier, then zeros.
 pub fn write_nodes(tray: &mut [u8], tree: &[u16; 4608], len: usize)
     ensures { λ r. ⌜ ((ns : List Node) → length ns ≡ len → len ≤ 512 → now (tree .entry) ≡ lay ns → Each (λ (x : Node). x .world < 256) ns
@@ -130,7 +166,7 @@ pub fn write_nodes(tray: &mut [u8], tree: &[u16; 4608], len: usize)
         if 512 <= i {
             return;
         }
-        at = put_node(tray, at, tree, ProofTreeNodeID(i as u16));
+        at = append_node(tray, at, tree, ProofTreeNodeID(i as u16));
         i += 1;
     }
     put_zeros(tray, at, 6144);

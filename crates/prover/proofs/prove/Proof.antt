@@ -1,4 +1,4 @@
-use mathlib.Core.Path.{refl, sym, ap, _∙_}
+use mathlib.Core.Path.{sym, ap, _∙_}
 use Rattle.checks.specs.Checked.{checkOf}
 use Rattle.prover.specs.Said.{said}
 use Rattle.prover.proofs.Whole.{contract-refused}

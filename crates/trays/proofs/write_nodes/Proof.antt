@@ -33,8 +33,8 @@ returns c = λ ns e l q h r. absurd (omega (arith, c .if1 .taken, c .before .loo
 cast-t9 : tie.Need-cast-t9 Inv-loop μ-loop
 cast-t9 c = search needs
 
-put-node-requires : tie.Need-put-node-requires Inv-loop μ-loop
-put-node-requires c κs = search needs
+append-node-requires : tie.Need-append-node-requires Inv-loop μ-loop
+append-node-requires c κs = search needs
 
 add-i : tie.Need-add-i Inv-loop μ-loop
 add-i c = search needs
@@ -43,7 +43,7 @@ loop-less : tie.Need-loop-less Inv-loop μ-loop
 loop-less c = search needs
 
 loop-again : tie.Need-loop-again Inv-loop μ-loop
-loop-again c = (search needs, λ ns e l q h r. let i = c .before .before .before .before .before .before .loop .i in let low : i < length ns = omega (arith, c .before .before .before .before .before .loop-test .taken) in parts-next nodeBytes 12 node-length ns _ i (c .before .before .before .before .before .before .loop .inv .1 ns e l q h r) blank (omega arith) low (c .before .before .put-node .ensures ns (omega arith) q (each-get (λ (x : Node). x .world < 256) ns blank h i (λ g. absurd (omega arith)))))
+loop-again c = (search needs, λ ns e l q h r. let i = c .before .before .before .before .before .before .loop .i in let low : i < length ns = omega (arith, c .before .before .before .before .before .loop-test .taken) in parts-next nodeBytes 12 node-length ns _ i (c .before .before .before .before .before .before .loop .inv .1 ns e l q h r) blank (omega arith) low (c .before .before .append-node .ensures ns (omega arith) q (each-get (λ (x : Node). x .world < 256) ns blank h i (λ g. absurd (omega arith)))))
 
 put-zeros-requires : tie.Need-put-zeros-requires Inv-loop μ-loop
 put-zeros-requires c κs = search needs
@@ -64,7 +64,7 @@ write-nodes-spec =
     same-length
     returns
     cast-t9
-    put-node-requires
+    append-node-requires
     add-i
     loop-less
     loop-again

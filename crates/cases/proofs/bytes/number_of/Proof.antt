@@ -1,0 +1,73 @@
+use Prim.Native.Nat.{_-_}
+use borrow.Author.Needs.{needs}
+use Rattle.cases.proofs.bytes.number_of.Statement.{statement}
+use Rattle.cases.proofs.bytes.number_of.Tie as tie
+
+abbrev Inv-loop : tie.InvT-loop
+Inv-loop line k from to n₀ i₀ n i = Unit {0}
+
+abbrev μ-loop : tie.MeasureT-loop
+μ-loop line k from to n₀ i₀ n i = to - i
+
+start-of-requires : tie.Need-start-of-requires Inv-loop μ-loop
+start-of-requires c κs = search needs
+
+end-of-requires : tie.Need-end-of-requires Inv-loop μ-loop
+end-of-requires c κs = search needs
+
+returns : tie.Need-returns Inv-loop μ-loop
+returns c = tt
+
+loop-holds : tie.Need-loop-holds Inv-loop μ-loop
+loop-holds c = tt
+
+byte-requires : tie.Need-byte-requires Inv-loop μ-loop
+byte-requires c κs = search needs
+
+hex-digit-requires : tie.Need-hex-digit-requires Inv-loop μ-loop
+hex-digit-requires c κs = search needs
+
+returns-2 : tie.Need-returns-2 Inv-loop μ-loop
+returns-2 c = tt
+
+returns-3 : tie.Need-returns-3 Inv-loop μ-loop
+returns-3 c = tt
+
+mul-n : tie.Need-mul-n Inv-loop μ-loop
+mul-n c = search needs
+
+add-n : tie.Need-add-n Inv-loop μ-loop
+add-n c = search needs
+
+add-i : tie.Need-add-i Inv-loop μ-loop
+add-i c = search needs
+
+loop-less : tie.Need-loop-less Inv-loop μ-loop
+loop-less c = search needs
+
+loop-again : tie.Need-loop-again Inv-loop μ-loop
+loop-again c = tt
+
+returns-4 : tie.Need-returns-4 Inv-loop μ-loop
+returns-4 c = tt
+
+pub number-of-spec : {M : Type 1} → statement M
+number-of-spec =
+    tie.close
+    (tie.spec
+    Inv-loop
+    μ-loop
+    start-of-requires
+    end-of-requires
+    returns
+    loop-holds
+    byte-requires
+    hex-digit-requires
+    returns-2
+    returns-3
+    mul-n
+    add-n
+    add-i
+    loop-less
+    loop-again
+    returns-4)

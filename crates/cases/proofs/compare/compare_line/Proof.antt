@@ -1,0 +1,62 @@
+use mathlib.Core.Path.{sym}
+use lib.Seq.{length-take-le}
+use borrow.Author.Needs.{needs}
+use Rattle.cases.proofs.compare.compare_line.Statement.{statement}
+use Rattle.cases.proofs.compare.compare_line.Tie as tie
+
+number-of-requires : tie.Need-number-of-requires
+number-of-requires c κs = search needs
+
+returns : tie.Need-returns
+returns c = search needs
+
+start-of-requires : tie.Need-start-of-requires
+start-of-requires c κs = search needs
+
+end-of-requires : tie.Need-end-of-requires
+end-of-requires c κs = search needs
+
+slice-aggregate-decode : tie.Need-slice-aggregate-decode
+slice-aggregate-decode c = search needs
+
+decode-requires : tie.Need-decode-requires
+decode-requires c κs = search needs
+
+slice-aggregate-branch : tie.Need-slice-aggregate-branch
+slice-aggregate-branch c = search needs
+
+returns-2 : tie.Need-returns-2
+returns-2 c = search needs
+
+read-line-requires : tie.Need-read-line-requires
+read-line-requires c κs = search needs
+
+slice-aggregate-compare-call : tie.Need-slice-aggregate-compare-call
+slice-aggregate-compare-call c = sym (length-take-le _ _ (search needs))
+
+cast-compare-call : tie.Need-cast-compare-call
+cast-compare-call c = search needs
+
+compare-call-requires : tie.Need-compare-call-requires
+compare-call-requires c κs = search needs
+
+returns-3 : tie.Need-returns-3
+returns-3 c = search needs
+
+pub compare-line-spec : {M : Type 1} → statement M
+compare-line-spec =
+    tie.close
+    (tie.spec
+    number-of-requires
+    returns
+    start-of-requires
+    end-of-requires
+    slice-aggregate-decode
+    decode-requires
+    slice-aggregate-branch
+    returns-2
+    read-line-requires
+    slice-aggregate-compare-call
+    cast-compare-call
+    compare-call-requires
+    returns-3)

@@ -1,0 +1,5 @@
+pub mod Windows
+pub mod Answering
+pub mod Decimals
+pub mod Texts
+pub mod Frames

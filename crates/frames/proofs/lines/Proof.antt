@@ -1,0 +1,36 @@
+use Prim.Native.Nat.{_*_, _-_, _≤_}
+use Rattle.frames.specs.Lines.{linesBelow}
+use Rattle.frames.specs.Put.{Put}
+use Rattle.frames.proofs.Frames.{lines-none, lines-next, lines-all}
+use borrow.Author.Needs.{needs}
+use Rattle.frames.proofs.lines.Statement.{statement}
+use Rattle.frames.proofs.lines.Tie as tie
+
+abbrev Inv-loop : tie.InvT-loop
+Inv-loop text₀ branch at₀ flags₀ text at flags = Put text₀ 0 (linesBelow flags branch) text at × (at ≤ 96 * flags) × (flags ≤ 8)
+
+abbrev μ-loop : tie.MeasureT-loop
+μ-loop text₀ branch at₀ flags₀ text at flags = 8 - flags
+
+loop-holds : tie.Need-loop-holds Inv-loop μ-loop
+loop-holds c = (lines-none _ _, search needs, search needs)
+
+put-frame-requires : tie.Need-put-frame-requires Inv-loop μ-loop
+put-frame-requires c κs = search needs
+
+add-flags : tie.Need-add-flags Inv-loop μ-loop
+add-flags c = search needs
+
+loop-less : tie.Need-loop-less Inv-loop μ-loop
+loop-less c = search needs
+
+loop-again : tie.Need-loop-again Inv-loop μ-loop
+loop-again c = (lines-next _ _ (c .before .before .before .loop .inv .0) (c .put-frame .ensures .0), search needs, search needs)
+
+returns : tie.Need-returns Inv-loop μ-loop
+returns c = lines-all _ _ (c .before .loop .inv .0) (search needs)
+
+pub lines-spec : {M : Type 1} → statement M
+lines-spec =
+    tie.close
+    (tie.spec Inv-loop μ-loop loop-holds put-frame-requires add-flags loop-less loop-again returns)

@@ -1,0 +1,4 @@
+pub mod Window
+pub mod Line
+pub mod Lines
+pub mod Put

@@ -1,0 +1,50 @@
+-- The text of a line: "flags 0 to 7, verdict (open, proved, late, both), identifiers, worlds, steps. A refusal prints flags, `refused`, number, place."
+use mathlib.Core.Bool.{Bool, true, false, cond}
+use mathlib.Core.List.{List, [], _∷_, _++_}
+use Prim.Native.Nat.{ℕ, zero, suc, _/_, _%_}
+use lib.Dec.{ltb}
+use Rattle.io.specs.Digits.{glyph}
+use Rattle.definition.specs.Call.{Answer, refusal, verdict}
+
+-- a number's last digit, after the digits of its tenth if there are more; the first argument bounds how many are in front
+unfoldable pub decimalWithin : ℕ → ℕ → List ℕ
+decimalWithin zero n = glyph (n % 10) ∷ []
+decimalWithin (suc k) n = cond (ltb n 10) [] (decimalWithin k (n / 10)) ++ (glyph (n % 10) ∷ [])
+
+-- a number in decimal digits, without zeros in front
+unfoldable pub decimalOf : ℕ → List ℕ
+decimalOf n = decimalWithin n n
+
+-- "open", "proved", "late", "both", "refused" in ASCII
+abbrev pub openWord : List ℕ
+openWord = 111 ∷ 112 ∷ 101 ∷ 110 ∷ []
+
+abbrev pub provedWord : List ℕ
+provedWord = 112 ∷ 114 ∷ 111 ∷ 118 ∷ 101 ∷ 100 ∷ []
+
+abbrev pub lateWord : List ℕ
+lateWord = 108 ∷ 97 ∷ 116 ∷ 101 ∷ []
+
+abbrev pub bothWord : List ℕ
+bothWord = 98 ∷ 111 ∷ 116 ∷ 104 ∷ []
+
+abbrev pub refusedWord : List ℕ
+refusedWord = 114 ∷ 101 ∷ 102 ∷ 117 ∷ 115 ∷ 101 ∷ 100 ∷ []
+
+-- the verdict's word: whether it is proved, whether it is late
+unfoldable pub wordOf : Bool → Bool → List ℕ
+wordOf false false = openWord
+wordOf true false = provedWord
+wordOf false true = lateWord
+wordOf true true = bothWord
+
+-- words with single spaces between them, ended by a newline
+unfoldable pub lineOfWords : List ℕ → List (List ℕ) → List ℕ
+lineOfWords w [] = w ++ (10 ∷ [])
+lineOfWords w (v ∷ vs) = w ++ (32 ∷ []) ++ lineOfWords v vs
+
+unfoldable pub lineOf : ℕ → Answer → List ℕ
+lineOf flags (refusal number place) = lineOfWords (decimalOf flags) (refusedWord ∷ decimalOf number ∷ decimalOf place ∷ [])
+lineOf flags (verdict v) =
+    lineOfWords (decimalOf flags)
+    (wordOf (v .proved) (v .late) ∷ decimalOf (v .identifiers) ∷ decimalOf (v .worlds) ∷ decimalOf (v .steps) ∷ [])

@@ -1,0 +1,273 @@
+// Eight Frames: what is kept of standard input, and the lines that are printed of it.
+ghost use mathlib.Core.Path.{_≡_};
+ghost use mathlib.Core.List.{[], _∷_, _++_};
+ghost use Prim.Native.Nat.{_+_, _-_, _*_, _≤_, _<_, min};
+ghost use lib.ListN.{length, take};
+ghost use Rattle.io.specs.Counts.{Counts};
+ghost use Rattle.definition.specs.Trays.{zeroTrays};
+ghost use Rattle.definition.specs.Call.{answer};
+ghost use Rattle.prover.specs.Said.{said};
+ghost use Rattle.frames.specs.Window.{window, keptWith, Windowed, Reads, ReadsMore};
+ghost use Rattle.frames.specs.Line.{lineOf, lineOfWords, refusedWord, wordOf, decimalOf};
+ghost use Rattle.frames.specs.Lines.{eightLines, Runs};
+ghost use Rattle.frames.specs.Put.{Put};
+use prover::Answer;
+use prover::prove;
+
+// What came of reading: an error, or how many bytes have been seen.
+enum Input {
+    Failed,
+    Seen { seen: usize },
+}
+
+// What came of a run: an error, or what was read and printed.
+pub enum Ran {
+    ReadFailed,
+    WriteFailed { seen: usize, printed: usize },
+    Done { seen: usize, printed: usize },
+}
+
+// One more read: an error, the end of the input, or how many bytes have been seen.
+enum More {
+    Failed,
+    Ended,
+    Seen { seen: usize },
+}
+
+// The count of bytes seen, with n more. It is exact up to 1,536 (256 records); beyond that it is
+// the one of 1,542 to 1,547 that has the same remainder by 6, and so the same answer.
+pub fn add(seen: usize, n: usize) -> usize
+    ensures { λ r. ⌜ r ≡ window (seen + n) ⌝ }
+{
+    if seen <= 1536 {
+        if n <= 1536 - seen {
+            return seen + n;
+        }
+    }
+    1542 + (seen % 6 + n % 6) % 6
+}
+
+// How many of n bytes have room after those seen, of so many in all.
+fn room(size: usize, seen: usize, n: usize) -> usize
+    ensures { λ r. ⌜ r ≡ min (size - seen) n ⌝ }
+{
+    if size <= seen {
+        return 0;
+    }
+    if n < size - seen {
+        return n;
+    }
+    size - seen
+}
+
+// A further part of the input, kept after the bytes seen as far as there is room; the bytes then seen.
+pub fn keep(kept: &mut [u8], seen: usize, part: &[u8]) -> usize
+    ensures { λ r. ⌜ r ≡ window (seen + length (now (part .entry))) ⌝ }
+    ensures { λ _. ⌜ now (kept .exit) ≡ keptWith (now (kept .entry)) seen (now (part .entry)) ⌝ }
+{
+    let n = room(kept.len(), seen, part.len());
+    let mut i: usize = 0;
+    while i < n {
+        kept[seen + i] = part[i];
+        i += 1;
+    }
+    add(seen, part.len())
+}
+
+// Reads once.
+fn read_more(kept: &mut [u8], seen: usize) -> More
+    requires { ⌜ Windowed (now kept) seen ⌝ }
+    ensures { λ r. ⌜ ReadsMore (now (kept .exit)) seen r ⌝ }
+{
+    let mut part = io::large_buffer();
+    let got = libc::read(libc::STDIN_FILENO, &mut part);
+    if got < 0 {
+        return More::Failed;
+    }
+    if got == 0 {
+        return More::Ended;
+    }
+    let n = io::count(got, &part);
+    More::Seen {
+        seen: keep(kept, seen, &part[..n]),
+    }
+}
+
+// Reads standard input to its end. A proved loop has to end, and nothing says that the input does:
+// the reads are counted, and after 2^64 - 1 of them, which no input reaches, it is a read error.
+fn read_all(kept: &mut [u8]) -> Input
+    requires { ⌜ 1547 ≤ length (now kept) ⌝ }
+    ensures { λ r. ⌜ Reads (now (kept .exit)) r ⌝ }
+{
+    let mut seen: usize = 0;
+    let mut reads = u64::MAX;
+    while 0 < reads {
+        match read_more(kept, seen) {
+            More::Failed => return Input::Failed,
+            More::Ended => return Input::Seen { seen },
+            More::Seen { seen: now } => seen = now,
+        }
+        reads -= 1;
+    }
+    Input::Failed
+}
+
+// Bytes put at a position; the position after them.
+fn put(text: &mut [u8], at: usize, bytes: &[u8]) -> usize
+    requires { ⌜ at + length (now bytes) ≤ length (now text) ⌝ }
+    ensures { λ r. ⌜ Put (now (text .entry)) at (now (bytes .entry)) (now (text .exit)) r ⌝ }
+{
+    let mut i: usize = 0;
+    while i < bytes.len() {
+        text[at + i] = bytes[i];
+        i += 1;
+    }
+    at + bytes.len()
+}
+
+// A number and the byte after it.
+fn put_number(text: &mut [u8], at: usize, n: u64, after: u8) -> usize
+    requires { ⌜ at + 21 ≤ length (now text) ⌝ }
+    ensures { λ r. ⌜ Put (now (text .entry)) at (decimalOf n ++ (after ∷ [])) (now (text .exit)) r ⌝ }
+    ensures { λ r. ⌜ r ≤ at + 21 ⌝ }
+{
+    let mut digits = [0u8; 20];
+    let k = io::decimal(n, &mut digits);
+    let end = put(text, at, &digits[..k]);
+    put(text, end, &[after])
+}
+
+// The word of a verdict and a space.
+fn put_word(text: &mut [u8], at: usize, proved: bool, late: bool) -> usize
+    requires { ⌜ at + 7 ≤ length (now text) ⌝ }
+    ensures { λ r. ⌜ Put (now (text .entry)) at (wordOf proved late ++ (32 ∷ [])) (now (text .exit)) r ⌝ }
+    ensures { λ r. ⌜ r ≤ at + 7 ⌝ }
+{
+    if proved {
+        if late {
+            return put(text, at, b"both ");
+        }
+        return put(text, at, b"proved ");
+    }
+    if late {
+        return put(text, at, b"late ");
+    }
+    put(text, at, b"open ")
+}
+
+// What a refusal prints after the flags.
+fn put_refusal(text: &mut [u8], at: usize, number: u16, place: u16) -> usize
+    requires { ⌜ at + 50 ≤ length (now text) ⌝ }
+    ensures { λ r. ⌜ Put (now (text .entry)) at (lineOfWords refusedWord (decimalOf number ∷ decimalOf place ∷ [])) (now (text .exit)) r ⌝ }
+    ensures { λ r. ⌜ r ≤ at + 50 ⌝ }
+{
+    let a = put(text, at, b"refused ");
+    let b = put_number(text, a, number as u64, b' ');
+    put_number(text, b, place as u64, b'\n')
+}
+
+// The counts of a verdict.
+fn put_counts(text: &mut [u8], at: usize, identifiers: u64, worlds: u64, steps: u64) -> usize
+    requires { ⌜ at + 63 ≤ length (now text) ⌝ }
+    ensures { λ r. ⌜ Put (now (text .entry)) at (lineOfWords (decimalOf identifiers) (decimalOf worlds ∷ decimalOf steps ∷ [])) (now (text .exit)) r ⌝ }
+    ensures { λ r. ⌜ r ≤ at + 63 ⌝ }
+{
+    let a = put_number(text, at, identifiers, b' ');
+    let b = put_number(text, a, worlds, b' ');
+    put_number(text, b, steps, b'\n')
+}
+
+// The line of an answer.
+fn put_line(text: &mut [u8], at: usize, flags: u8, answer: Answer) -> usize
+    requires { ⌜ at + 96 ≤ length (now text) ⌝ }
+    ensures { λ r. ⌜ Put (now (text .entry)) at (lineOf flags (said answer)) (now (text .exit)) r ⌝ }
+    ensures { λ r. ⌜ r ≤ at + 96 ⌝ }
+{
+    let a = put_number(text, at, flags as u64, b' ');
+    match answer {
+        Answer::Refusal { number, place } => put_refusal(text, a, number, place),
+        Answer::Verdict {
+            proved,
+            late,
+            identifiers,
+            formulas: _,
+            worlds,
+            steps,
+        } => {
+            let b = put_word(text, a, proved, late);
+            put_counts(text, b, identifiers as u64, worlds as u64, steps as u64)
+        }
+    }
+}
+
+// The line of an answer to these flags, and its length.
+pub fn line(text: &mut [u8; 96], flags: u8, answer: Answer) -> usize
+    ensures { λ r. ⌜ Counts r (now (text .exit)) ⌝ }
+    ensures { λ r. ⌜ take r (now (text .exit)) ≡ lineOf flags (said answer) ⌝ }
+{
+    put_line(text, 0, flags, answer)
+}
+
+// The line of the call with these flags, put at a position.
+fn put_frame(text: &mut [u8], at: usize, branch: &[u8], flags: u8) -> usize
+    requires { ⌜ at + 96 ≤ length (now text) ⌝ }
+    ensures { λ r. ⌜ Put (now (text .entry)) at (lineOf flags (answer (now (branch .entry)) flags zeroTrays)) (now (text .exit)) r ⌝ }
+    ensures { λ r. ⌜ r ≤ at + 96 ⌝ }
+{
+    let mut nodes = [0u8; 6144];
+    let mut formulas = [0u8; 7680];
+    let mut edges = [0u32; 25];
+    let answer = prove(branch, flags, &mut nodes, &mut formulas, &mut edges);
+    put_line(text, at, flags, answer)
+}
+
+// The eight lines of a branch, and their length.
+pub fn lines(text: &mut [u8; 768], branch: &[u8]) -> usize
+    ensures { λ r. ⌜ Counts r (now (text .exit)) ⌝ }
+    ensures { λ r. ⌜ take r (now (text .exit)) ≡ eightLines (now (branch .entry)) ⌝ }
+{
+    let mut at: usize = 0;
+    let mut flags: u8 = 0;
+    while flags < 8 {
+        at = put_frame(text, at, branch, flags);
+        flags += 1;
+    }
+    at
+}
+
+// The eight lines of the bytes kept, and their length.
+fn lines_of(text: &mut [u8; 768], kept: &[u8], seen: usize) -> usize
+    requires { ⌜ Counts seen (now kept) ⌝ }
+    ensures { λ r. ⌜ Counts r (now (text .exit)) ⌝ }
+    ensures { λ r. ⌜ take r (now (text .exit)) ≡ eightLines (take seen (now (kept .entry))) ⌝ }
+{
+    lines(text, &kept[..seen])
+}
+
+// Prints the text on standard output; whether all of it was written.
+fn print(text: &[u8], printed: usize) -> bool
+    requires { ⌜ Counts printed (now text) ⌝ }
+{
+    io::write_all(libc::STDOUT_FILENO, &text[..printed])
+}
+
+// Reads standard input and prints its eight lines. An error is reported on standard error; after a
+// read error nothing is printed on standard output.
+pub fn run(kept: &mut [u8; 1547], text: &mut [u8; 768]) -> Ran
+    ensures { λ r. ⌜ Runs (now (kept .exit)) (now (text .exit)) r ⌝ }
+{
+    match read_all(kept) {
+        Input::Failed => {
+            io::write_all(libc::STDERR_FILENO, b"standard input cannot be read\n");
+            Ran::ReadFailed
+        }
+        Input::Seen { seen } => {
+            let printed = lines_of(text, kept, seen);
+            if print(text, printed) {
+                return Ran::Done { seen, printed };
+            }
+            io::write_all(libc::STDERR_FILENO, b"standard output cannot be written\n");
+            Ran::WriteFailed { seen, printed }
+        }
+    }
+}
