@@ -177,7 +177,7 @@ numbered-steps test (suc n) F s k small = go (test s) small (numbered-steps test
     go true l f = k
     go false l f = f (numbered-step F s k (omega (arith, l, steps-keep test n F (step F s) .longer))) l
 
-begun-unmarked : (rs : List Rec) (x : ℕ) → nodeAt (begun rs .nodes) x .contrarian ≡ nobody
+pub begun-unmarked : (rs : List Rec) (x : ℕ) → nodeAt (begun rs .nodes) x .contrarian ≡ nobody
 unfolding begun branchNodes rooted
 begun-unmarked rs x = go (marks rs)
   where

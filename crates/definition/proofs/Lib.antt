@@ -24,5 +24,8 @@ pub mod Growing
 pub mod Made
 pub mod Fields
 pub mod Ready
+pub mod Partners
+pub mod Takers
+pub mod Marked
 pub mod Calls
 pub mod Computed

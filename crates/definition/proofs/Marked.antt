@@ -1,0 +1,370 @@
+-- After a check, a path has a contradictory node just where it has a pair, and marks anew change nothing: only the new leaves need a search.
+use mathlib.Core.Path.{_≡_, refl, sym, ap, _∙_, subst, fun-ext}
+use mathlib.Core.Bool.{Bool, true, false, not, cond}
+use mathlib.Core.List.{List, [], _∷_, _++_, map, reverse, append-nil}
+use mathlib.Core.Option.{Option, none, some, Option·map}
+use mathlib.Core.Logic.{_⊎_, inl, inr, ⊎-elim, _≢_}
+use Prim.Native.Nat.{ℕ, zero, suc, _<_, _≤_, _+_}
+use native.Mathlib.Omega.{arith}
+use lib.Dec.{ltb, leb}
+use borrow.Author.Tests.{ne-eqb, ltb-true, ltb-false, leb-false}
+use lib.ListN.{length, drop}
+use lib.Seq.{set-getD}
+use Rattle.definition.specs.Lists.{Each, any, all, find, orElse, filter, empty}
+use Rattle.definition.specs.Records.{nobody, isNobody, Rec, marks}
+use Rattle.definition.specs.Flags.{Flags}
+use Rattle.definition.specs.Tree.{Node, Place, Root, Left, Middle, Right, Unplaced, Children, nodeAt, markedAgainst, change, isLeaf, isContradictory, only, leavesBelow, leaves, path}
+use Rattle.definition.specs.Contradiction.{areNodesContradictory, Pair, pair, isPair, mark, markAll, pairs}
+use Rattle.definition.specs.Queue.{Popped, pop}
+use Rattle.definition.specs.Run.{State, apply, checkedForContradictions, checkForContradictions, appended, stepBy, step, stops, begun, start}
+use Rattle.definition.proofs.Lists.{true-false, either, alike, or-true, Some, some-append-left, some-append-right, some-each, some-pick, each-map, each-both, each-of-map, each-reverse}
+use Rattle.definition.proofs.Nodes.{blank, change-other, change-same, mark-keeps, length-marks}
+use Rattle.definition.proofs.Treed.{Spot, spot, spots, placed, childAt, In, Treed, Bare, in-range, in-out, root-in, leaves-bare, leaves-more, path-distinct}
+use Rattle.definition.proofs.Linking.{bare-room}
+use Rattle.definition.proofs.Growing.{between-keeps, marks-keep, begun-treed}
+use Rattle.definition.proofs.Fields.{begun-unmarked}
+use Rattle.definition.proofs.Count.{checked-length}
+use Rattle.definition.proofs.Ready.{Fit, ready}
+use Rattle.definition.proofs.Partners.{earlier, partner, pairOf, climbing, path-below, path-root, pair-below, pair-root, each-tail, marks-same, Stem, Grown, appended-grown, appended-same}
+use Rattle.definition.proofs.Takers.{closed, OpenLeaf, Hung, bare-before, between-hung}
+
+-- every leaf is listed
+module _ (t : List Node) (r : Treed t) where
+  listed-at : (k l x : ℕ) (c : Children) (p : Place) → x ≢ nobody → childAt p c ≡ x → Some (λ z. z ≡ l) (leavesBelow k t x) →
+      Some (λ z. z ≡ l) (leavesBelow k t (c .left) ++ (leavesBelow k t (c .middle) ++ leavesBelow k t (c .right)))
+  unfolding childAt
+  listed-at k l x c Root ne e h = absurd (ne (sym e))
+  listed-at k l x c Unplaced ne e h = absurd (ne (sym e))
+  listed-at k l x c Left ne e h = some-append-left _ (leavesBelow k t (c .left)) _ (rw e h)
+  listed-at k l x c Middle ne e h = some-append-right _ (leavesBelow k t (c .left)) _ (some-append-left _ (leavesBelow k t (c .middle)) _ (rw e h))
+  listed-at k l x c Right ne e h = some-append-right _ (leavesBelow k t (c .left)) _ (some-append-right _ (leavesBelow k t (c .middle)) _ (rw e h))
+
+  listed-up : (k l x : ℕ) → In (spots t) x → x ≢ 0 → Some (λ z. z ≡ l) (leavesBelow k t x) → Some (λ z. z ≡ l) (leavesBelow (suc k) t (nodeAt t x .parent))
+  unfolding leavesBelow
+  listed-up k l x i e h =
+      let c = nodeAt t (nodeAt t x .parent) .children in
+      let ne = in-out (spots t) x nobody i (r .nobody-out) in
+      let a = r .above x i e .child in
+      ⊎-elim (λ (q : isLeaf c ≡ true). absurd (ne (sym a ∙ bare-room (nodeAt t x .place) c q))) (λ (q : isLeaf c ≡ false). rw q (listed-at k l x c (nodeAt t x .place) ne a h)) (either (isLeaf c))
+
+  leaf-listed : (l : ℕ) → Bare (spots t) l → Some (λ z. z ≡ l) (leaves t)
+  unfolding leavesBelow only
+  leaf-listed l b =
+      let n = length t in
+      let k = climbing t r (λ x. (k : ℕ) → n ≤ k → Some (λ z. z ≡ l) (leavesBelow k t x) → (m : ℕ) × (n ≤ m) × Some (λ z. z ≡ l) (leavesBelow m t 0)) (λ k q h. (k, q, h))
+      (λ x i j up k q h. ⊎-elim (λ (e : x ≡ 0). (k, q, rw e at h)) (λ (e : x ≢ 0). up (suc k) (omega arith) (listed-up k l x i e h)) (alike x 0)) l (b .0) (suc n) (omega arith)
+      (rw (b .1, ne-eqb l nobody (in-out (spots t) l nobody (b .0) (r .nobody-out))) (inl refl)) in
+      rw (leaves-more t r (k .0) (k .1)) at (k .2)
+
+  -- what holds of the listed leaves holds of every leaf
+  pub leaf-each : (P : ℕ → Type 0) → Each P (leaves t) → (l : ℕ) → Bare (spots t) l → P l
+  leaf-each P h l b = let k = some-pick (leaves t) (some-each {R = λ z. (z ≡ l) × P z} (λ z e p. (e, p)) (leaves t) (leaf-listed l b) h) in subst P (k .1 .0) (k .1 .1)
+
+else-some : (x : ℕ) (o : Option ℕ) (rest : Option Pair) (p : Pair) → orElse (Option·map (pair x) o) rest ≡ some p → ((p .later ≡ x) × (o ≡ some (p .earlier))) ⊎ (rest ≡ some p)
+else-some x none rest p e = inr e
+else-some x (some y) rest p e = let d : pair x y ≡ p = cc in inl (sym (ap (λ (q : Pair). q .later) d), ap (λ (q : Pair). some (q .earlier)) d)
+
+else-none : (x : ℕ) (o : Option ℕ) (rest : Option Pair) → orElse (Option·map (pair x) o) rest ≡ none → (o ≡ none) × (rest ≡ none)
+else-none x none rest e = (refl, e)
+else-none x (some y) rest e = let z : _≡_ {A = ℕ} 0 1 = cc in absurd (omega arith)
+
+find-each : (P : ℕ → Type 0) (p : ℕ → Bool) (xs : List ℕ) → Each P xs → (y : ℕ) → find p xs ≡ some y → P y
+find-each P p [] h y e = let z : _≡_ {A = ℕ} 0 1 = cc in absurd (omega arith)
+find-each P p (x ∷ xs) h y e = go (p x) e (find-each P p xs (h .1) y)
+  where
+    go : (b : Bool) → cond b (some x) (find p xs) ≡ some y → (find p xs ≡ some y → P y) → P y
+    go true d k = let q : x ≡ y = cc in subst P q (h .0)
+    go false d k = k d
+
+-- the pair of x: its later node is on the path, and has the earlier one for a partner
+pub record Paired (rs : List Rec) (t : List Node) (x : ℕ) (p : Pair) : Type 0 where
+  pub there : In (spots t) (p .later)
+  pub by : partner rs t (p .later) ≡ some (p .earlier)
+  pub on : Some (λ z. z ≡ p .later) (path t x)
+
+module _ (rs : List Rec) (t : List Node) (r : Treed t) where
+  pub pair-partner : (x : ℕ) → In (spots t) x → (p : Pair) → pairOf rs t x ≡ some p → Paired rs t x p
+  pair-partner =
+      climbing t r (λ x. (p : Pair) → pairOf rs t x ≡ some p → Paired rs t x p) (λ p e. let z : _≡_ {A = ℕ} 0 1 = cc (pair-root t r rs .1) in absurd (omega arith))
+      (λ x i j up p e.
+      ⊎-elim
+      (λ (d : (p .later ≡ x) × (partner rs t x ≡ some (p .earlier))). record { there = rw (d .0) i; by = rw (d .0) (d .1); on = rw (path-below t r x i) (inl (sym (d .0))) })
+      (λ d. let k = up p d in record { there = k .there; by = k .by; on = rw (path-below t r x i) (inr (k .on)) })
+      (else-some x (partner rs t x) _ p (sym (pair-below t r rs x i) ∙ e)))
+
+  path-in : (x : ℕ) → In (spots t) x → Each (In (spots t)) (path t x)
+  path-in = climbing t r (λ x. Each (In (spots t)) (path t x)) (rw (path-root t r) (root-in (spots t) r, tt)) (λ x i j up. rw (path-below t r x i) (i, up))
+
+  -- where there is no pair, no node of the path has a partner
+  pub no-partner : (x : ℕ) → In (spots t) x → pairOf rs t x ≡ none → Each (λ z. partner rs t z ≡ none) (path t x)
+  no-partner =
+      climbing t r (λ x. pairOf rs t x ≡ none → Each (λ z. partner rs t z ≡ none) (path t x)) (λ e. rw (path-root t r) (pair-root t r rs .0, tt))
+      (λ x i j up e. let d = else-none x (partner rs t x) _ (sym (pair-below t r rs x i) ∙ e) in rw (path-below t r x i) (d .0, up (d .1)))
+
+  partner-known : (x y : ℕ) → In (spots t) x → partner rs t x ≡ some y → y < length t
+  unfolding partner earlier
+  partner-known x y i e =
+      find-each (λ z. z < length t) (areNodesContradictory rs t x) (reverse (drop 1 (path t x)))
+      (each-reverse (λ z. z < length t) (drop 1 (path t x)) (each-tail (λ z. z < length t) (path t x) (path-distinct t r x i .1))) y e
+
+-- every mark is against the partner
+abbrev pub RightMarks : List Rec → List Node → Type 0
+RightMarks rs t = (x : ℕ) → In (spots t) x → (nodeAt t x .contrarian ≡ nobody) ⊎ (partner rs t x ≡ some (nodeAt t x .contrarian))
+
+-- the pair, if there is one, is marked
+abbrev pub Done : List Node → Option Pair → Type 0
+Done t none = Unit {0}
+Done t (some p) = nodeAt t (p .later) .contrarian ≡ p .earlier
+
+-- the tree after a check: each mark is against the partner, and the pair of each leaf is marked
+pub record Checked (rs : List Rec) (t : List Node) : Type 0 where
+  pub right : RightMarks rs t
+  pub whole : (l : ℕ) → Bare (spots t) l → Done t (pairOf rs t l)
+
+any-at : (p : ℕ → Bool) (x : ℕ) (xs : List ℕ) → Some (λ z. z ≡ x) xs → p x ≡ true → any p xs ≡ true
+any-at p x [] h e = absurd h
+any-at p x (y ∷ ys) (inl q) e = rw (q, e)
+any-at p x (y ∷ ys) (inr q) e = or-true (p y) (any-at p x ys q e)
+
+any-none : (p : ℕ → Bool) (xs : List ℕ) → Each (λ x. p x ≡ false) xs → any p xs ≡ false
+any-none p [] h = refl
+any-none p (x ∷ xs) h = rw (h .0) (any-none p xs (h .1))
+
+module _ (rs : List Rec) (t : List Node) (r : Treed t) (few : length t ≤ nobody) (c : Checked rs t) where
+  -- a leaf's path has a contradictory node just if it has a pair
+  pub closed-pair : (l : ℕ) → Bare (spots t) l → closed t l ≡ isPair (pairOf rs t l)
+  unfolding isPair isContradictory
+  closed-pair l b = go (pairOf rs t l) refl (c .whole l b)
+    where
+      marked : ℕ → Bool
+      marked x = not (isNobody (nodeAt t x .contrarian))
+
+      alone : (x : ℕ) → In (spots t) x → partner rs t x ≡ none → marked x ≡ false
+      alone x i e = ⊎-elim (λ q. rw q) (λ q. let z : _≡_ {A = ℕ} 0 1 = cc in absurd (omega arith)) (c .right x i)
+
+      go : (o : Option Pair) → pairOf rs t l ≡ o → Done t o → any marked (path t l) ≡ isPair o
+      go none e d = any-none marked (path t l) (each-both alone (path t l) (path-in rs t r l (b .0)) (no-partner rs t r l (b .0) e))
+      go (some p) e d =
+          let k = pair-partner rs t r l (b .0) p e in
+          any-at marked (p .later) (path t l) (k .on) (rw (d, ne-eqb (p .earlier) nobody (λ q. omega (arith, few, q, partner-known rs t r (p .later) (p .earlier) (k .there) (k .by)))))
+
+  -- so a leaf that takes a subtree has no pair
+  pub open-none : (l : ℕ) → OpenLeaf t l → pairOf rs t l ≡ none
+  unfolding isPair
+  open-none l o = go (pairOf rs t l) (sym (closed-pair l (o .bare)) ∙ o .unmarked)
+    where
+      go : (q : Option Pair) → isPair q ≡ false → q ≡ none
+      go none e = refl
+      go (some p) e = true-false e
+
+each-from : {A B : Type 0} (P : B → Type 0) (f : A → B) (xs : List A) → Each P (map f xs) → Each (λ x. P (f x)) xs
+each-from P f [] h = tt
+each-from P f (x ∷ xs) h = (h .0, each-from P f xs (h .1))
+
+-- marks against partners: π names the partner of a node
+module _ (π : ℕ → Option ℕ) where
+  abbrev Exact : ℕ → Option Pair → Type 0
+  Exact n none = Unit {0}
+  Exact n (some p) = (p .later < n) × (π (p .later) ≡ some (p .earlier))
+
+  -- a mark takes no other mark away
+  done-one : (u : List Node) (o q : Option Pair) → Exact (length u) o → Exact (length u) q → Done u q → Done (mark u o) q
+  unfolding mark
+  done-one u none q a b d = d
+  done-one u (some p) none a b d = tt
+  done-one u (some p) (some q) a b d =
+      ⊎-elim (λ (e : q .later ≡ p .later).
+      let same : p .earlier ≡ q .earlier = cc (ap π e) in
+      rw (e, change-same u (p .later) (markedAgainst (p .earlier)) (a .0)) same)
+      (λ (e : q .later ≢ p .later). rw (change-other u (p .later) (q .later) (markedAgainst (p .earlier)) e) d) (alike (q .later) (p .later))
+
+  done-self : (u : List Node) (o : Option Pair) → Exact (length u) o → Done (mark u o) o
+  unfolding mark
+  done-self u none a = tt
+  done-self u (some p) a = rw (change-same u (p .later) (markedAgainst (p .earlier)) (a .0))
+
+  exact-mark : (u : List Node) (o q : Option Pair) → Exact (length u) q → Exact (length (mark u o)) q
+  unfolding markAll
+  exact-mark u o q = subst (λ (n : ℕ). Exact n q) (sym (length-marks (o ∷ []) u))
+
+  done-more : (ps : List (Option Pair)) (u : List Node) (q : Option Pair) → Each (Exact (length u)) ps → Exact (length u) q → Done u q → Done (markAll u ps) q
+  unfolding markAll
+  done-more [] u q h b d = d
+  done-more (o ∷ ps) u q h b d = done-more ps (mark u o) q (each-map (exact-mark u o) ps (h .1)) (exact-mark u o q b) (done-one u o q (h .0) b d)
+
+  done-all : (ps : List (Option Pair)) (u : List Node) → Each (Exact (length u)) ps → Each (Done (markAll u ps)) ps
+  unfolding markAll
+  done-all [] u h = tt
+  done-all (o ∷ ps) u h =
+      let k = each-map (exact-mark u o) ps (h .1) in
+      (done-more ps (mark u o) o k (exact-mark u o o (h .0)) (done-self u o (h .0)), done-all ps (mark u o) k)
+
+  -- a mark that is there changes nothing
+  done-again : (u : List Node) (o : Option Pair) → Done u o → mark u o ≡ u
+  unfolding mark
+  done-again u none d = refl
+  done-again u (some p) d = rw (← d) (set-getD u (p .later) blank)
+
+  -- so that of the pairs of some leaves, those that are marked can be left out
+  done-skip : {A : Type 0} (f : A → Option Pair) (p : A → Bool) (ls : List A) (u : List Node) → Each (λ l. Exact (length u) (f l)) ls → Each (λ l. p l ≡ false → Done u (f l)) ls →
+      markAll u (map f ls) ≡ markAll u (map f (filter p ls))
+  unfolding markAll
+  done-skip f p [] u h d = refl
+  done-skip f p (l ∷ ls) u h d =
+      ⊎-elim (λ (e : p l ≡ true).
+      rw e (done-skip f p ls (mark u (f l)) (each-map (λ m. exact-mark u (f l) (f m)) ls (h .1))
+      (each-both {R = λ m. p m ≡ false → Done (mark u (f l)) (f m)} (λ m a b q. done-one u (f l) (f m) (h .0) a (b q)) ls (h .1) (d .1))))
+      (λ (e : p l ≡ false). rw e (ap (λ (v : List Node). markAll v (map f ls)) (done-again u (f l) (d .0 e)) ∙ done-skip f p ls u (h .1) (d .1))) (either (p l))
+
+  abbrev Against : List Node → ℕ → Type 0
+  Against u x = (nodeAt u x .contrarian ≡ nobody) ⊎ (π x ≡ some (nodeAt u x .contrarian))
+
+  right-one : (u : List Node) (o : Option Pair) (x : ℕ) → Exact (length u) o → Against u x → Against (mark u o) x
+  unfolding mark
+  right-one u none x a h = h
+  right-one u (some p) x a h =
+      ⊎-elim (λ (e : x ≡ p .later). rw (e, change-same u (p .later) (markedAgainst (p .earlier)) (a .0)) (inr (a .1)))
+      (λ (e : x ≢ p .later). rw (change-other u (p .later) x (markedAgainst (p .earlier)) e) h) (alike x (p .later))
+
+  right-all : (ps : List (Option Pair)) (u : List Node) (x : ℕ) → Each (Exact (length u)) ps → Against u x → Against (markAll u ps) x
+  unfolding markAll
+  right-all [] u x a h = h
+  right-all (o ∷ ps) u x a h = right-all ps (mark u o) x (each-map (exact-mark u o) ps (a .1)) (right-one u o x (a .0) h)
+
+module _ (rs : List Rec) (t : List Node) (r : Treed t) where
+  -- the pairs of the leaves are pairs of partners
+  pair-exact : (l : ℕ) → In (spots t) l → Exact (partner rs t) (length t) (pairOf rs t l)
+  pair-exact l i = go (pairOf rs t l) refl
+    where
+      go : (o : Option Pair) → pairOf rs t l ≡ o → Exact (partner rs t) (length t) o
+      go none e = tt
+      go (some p) e = let k = pair-partner rs t r l i p e in (in-range t (p .later) (k .there), k .by)
+
+  leaves-exact : Each (λ l. Exact (partner rs t) (length t) (pairOf rs t l)) (leaves t)
+  leaves-exact = each-map (λ l (b : Bare (spots t) l). pair-exact l (b .0)) (leaves t) (leaves-bare t r)
+
+  -- marking the pairs of the leaves makes the tree so
+  pub marks-checked : RightMarks rs t → Checked rs (markAll t (pairs rs t (leaves t)))
+  unfolding pairs pairOf
+  marks-checked h =
+      let found = pairs rs t (leaves t) in
+      let u = markAll t found in
+      let exact = each-of-map (Exact (partner rs t) (length t)) (pairOf rs t) (leaves t) leaves-exact in
+      let stands : spots u ≡ spots t = fun-ext (mark-keeps spot (λ j n. refl) found t) in
+      record {
+        right = λ x i.
+            rw (marks-same rs t found x .same-partner) (right-all (partner rs t) found t x exact (h x (subst (λ (g : ℕ → Spot). In g x) stands i)));
+        whole = λ l b.
+            rw (marks-same rs t found l .same-pair) (leaf-each t r (λ m. Done u (pairOf rs t m)) (each-from (Done u) (pairOf rs t) (leaves t) (done-all (partner rs t) found t exact)) l (subst (λ (g : ℕ → Spot). Bare g l) stands b));
+      }
+
+leaves-like : (t t′ : List Node) → ((x : ℕ) → nodeAt t′ x .children ≡ nodeAt t x .children) → (k x : ℕ) → leavesBelow k t′ x ≡ leavesBelow k t x
+unfolding leavesBelow
+leaves-like t t′ e zero x = refl
+leaves-like t t′ e (suc k) x =
+    let c = nodeAt t x .children in
+    rw (e x, leaves-like t t′ e k (c .left), leaves-like t t′ e k (c .middle), leaves-like t t′ e k (c .right))
+
+-- marks change no leaf
+pub marks-leaves : (t : List Node) (ps : List (Option Pair)) → leaves (markAll t ps) ≡ leaves t
+unfolding leaves
+marks-leaves t ps = rw length-marks (leaves-like t (markAll t ps) (mark-keeps (λ (n : Node). n .children) (λ j n. refl) ps t) (length t) 0)
+
+all-map : {A B : Type 0} (p : B → Bool) (q : A → Bool) (f : A → B) (xs : List A) → Each (λ x. p (f x) ≡ q x) xs → all p (map f xs) ≡ all q xs
+all-map p q f [] h = refl
+all-map p q f (x ∷ xs) h = rw (h .0, all-map p q f xs (h .1))
+
+-- "every path has a pair" is that every leaf's path is closed after the check
+pub all-closed : (rs : List Rec) (t : List Node) → Treed t → length t ≤ nobody → RightMarks rs t →
+    let u = markAll t (pairs rs t (leaves t)) in all isPair (pairs rs t (leaves t)) ≡ all (closed u) (leaves u)
+unfolding pairs pairOf
+all-closed rs t r few m =
+    let found = pairs rs t (leaves t) in
+    let u = markAll t found in
+    let k = marks-keep found t in
+    let size : length u ≤ nobody = omega (arith, few, length-marks found t) in
+    let stands : spots t ≡ spots u = fun-ext (λ x. sym (mark-keeps spot (λ j n. refl) found t x)) in
+    rw (marks-leaves t found)
+    (all-map isPair (closed u) (pairOf rs t) (leaves t)
+    (each-map (λ l (b : Bare (spots t) l).
+    sym (closed-pair rs u (k .treed r size) size (marks-checked rs t r m) l (subst (λ (g : ℕ → Spot). Bare g l) stands b) ∙ ap isPair (marks-same rs t found l .same-pair))) (leaves t) (leaves-bare t r)))
+
+-- the tree of a step before its check
+module _ (F : Flags) (k : ℕ) (s : State) (p : Popped) (h : Fit F k s) (e : stops s ≡ false) (few : length (appended F s p .nodes) ≤ nobody) where
+  abbrev t : List Node
+  t = s .nodes
+
+  abbrev u : List Node
+  u = appended F s p .nodes
+
+  r : Treed t
+  r = ready F k s h e .treed
+
+  g : Grown t u
+  g = appended-grown F s p
+
+  pub appended-hung : Treed u × Hung t u
+  unfolding appended
+  appended-hung =
+      let rs = apply F s (p .node) .subtrees in
+      let d = sym (append-nil rs) in
+      (between-keeps F s (p .node) (p .others) rs [] d .treed r few, between-hung F s (p .node) (p .others) rs [] d r few)
+
+  old-in : (x : ℕ) → In (spots u) x → x < length t → In (spots t) x
+  old-in x i l = sym (ap (λ (n : Stem). placed (n .place)) (g .stems x l)) ∙ i
+
+  pub appended-right : RightMarks (s .formulas) t → RightMarks (appended F s p .formulas) u
+  appended-right m x i =
+      ⊎-elim (λ q.
+      let l = ltb-true x (length t) q in
+      let j = old-in x i l in
+      rw (ap (λ (n : Stem). n .contrarian) (g .stems x l), appended-same F k s h e x j p .same-partner) (m x j))
+      (λ q. inl (appended-hung .1 .plain x (ltb-false x (length t) q))) (either (ltb x (length t)))
+
+  module _ (c : Checked (s .formulas) t) where
+    -- an old leaf's pair is marked already
+    old-done : (l : ℕ) → Bare (spots u) l → l < length t → Done u (pairOf (appended F s p .formulas) u l)
+    old-done l b q =
+        let i = old-in l (b .0) q in
+        rw (appended-same F k s h e l i p .same-pair) (go (pairOf (s .formulas) t l) refl (c .whole l (i, bare-before t u r g (appended-hung .0) l i (b .1))))
+      where
+        go : (o : Option Pair) → pairOf (s .formulas) t l ≡ o → Done t o → Done u o
+        go none d m = tt
+        go (some a) d m =
+            let there = pair-partner (s .formulas) t r l (old-in l (b .0) q) a d .there in
+            ap (λ (n : Stem). n .contrarian) (g .stems (a .later) (in-range t (a .later) there)) ∙ m
+
+    -- the check of a step marks the pairs of the new leaves
+    pub marks-new : markAll u (pairs (appended F s p .formulas) u (leaves u)) ≡ markAll u (pairs (appended F s p .formulas) u (filter (leb (length t)) (leaves u)))
+    unfolding pairs pairOf
+    marks-new =
+        let rs = appended F s p .formulas in
+        let r′ = appended-hung .0 in
+        done-skip (partner rs u) (pairOf rs u) (leb (length t)) (leaves u) u (leaves-exact rs u r′)
+        (each-map {Q = λ l. leb (length t) l ≡ false → Done u (pairOf rs u l)} (λ l (b : Bare (spots u) l) q. old-done l b (leb-false (length t) l q)) (leaves u) (leaves-bare u r′))
+
+    -- and these pairs end at new nodes: the parent of a new node is new, or has no pair
+    pub new-pair : (z : ℕ) → In (spots u) z → length t ≤ z → (length t ≤ nodeAt u z .parent) ⊎ (pairOf (appended F s p .formulas) u (nodeAt u z .parent) ≡ none)
+    new-pair z i l =
+        ⊎-elim (λ q. inl q) (λ o.
+        inr (appended-same F k s h e (nodeAt u z .parent) (o .bare .0) p .same-pair ∙ open-none (s .formulas) t r (omega (arith, few, g .longer)) c (nodeAt u z .parent) o)) (appended-hung .1 .below z i l)
+
+check-checked : (F : Flags) (s : State) → F .skip ≡ false → Treed (s .nodes) → RightMarks (s .formulas) (s .nodes) → Checked (checkForContradictions F s .formulas) (checkForContradictions F s .nodes)
+unfolding checkForContradictions checkedForContradictions
+check-checked F s e r m = rw e (marks-checked (s .formulas) (s .nodes) r m)
+
+-- every state of a run that checks
+pub start-checked : (F : Flags) (rs : List Rec) → F .skip ≡ false → empty (marks rs) ≡ false → length (start F rs .nodes) ≤ nobody → Checked (start F rs .formulas) (start F rs .nodes)
+unfolding start
+start-checked F rs e b few = check-checked F (begun rs) e (begun-treed rs b (omega (arith, few, checked-length F (begun rs)))) (λ x i. inl (begun-unmarked rs x))
+
+pub step-checked : (F : Flags) (k : ℕ) (s : State) → F .skip ≡ false → Fit F k s → stops s ≡ false → length (step F s .nodes) ≤ nobody → Checked (s .formulas) (s .nodes) →
+    Checked (step F s .formulas) (step F s .nodes)
+unfolding step stepBy
+step-checked F k s e h q few c = go (pop (s .formulas) (s .nodes) (s .waiting)) few
+  where
+    go : (o : Option Popped) → length (stepBy F s o .nodes) ≤ nobody → Checked (stepBy F s o .formulas) (stepBy F s o .nodes)
+    go none l = c
+    go (some p) l =
+        let m : length (appended F s p .nodes) ≤ nobody = omega (arith, l, checked-length F (appended F s p)) in
+        check-checked F (appended F s p) e (appended-hung F k s p h q m .0) (appended-right F k s p h q m (c .right))
