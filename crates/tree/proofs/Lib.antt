@@ -2,3 +2,5 @@ pub mod Rows
 pub mod Nodes
 pub mod Chains
 pub mod Paths
+pub mod Sequence
+pub mod Walk

@@ -7,10 +7,13 @@ use native.Mathlib.Omega.{arith}
 use native.Mathlib.Decide.{decLe}
 use lib.ListN.{length, set, replicate, length-append}
 use lib.Seq.{set-out, set-set, set-getD, getD-set-same, set-at, getD-at}
+use borrow.Author.Tests.{le-leb, lt-leb}
 use Rattle.definition.specs.Records.{nobody, isNobody}
 use Rattle.definition.specs.Tree.{Node, Children, Place, Root, Left, Middle, Right, Unplaced, nodeAt, newNode, setChild, change, placedBelow, withChild, isContradictory, link, isLeaf}
 use Rattle.definition.proofs.Nodes.{blank, length-change}
 use Rattle.tree.specs.Lay.{placeCode, row, lay, Held, held, tooMany}
+use Rattle.tree.specs.Sequence.{idAt, countAfter}
+use Rattle.tree.proofs.Sequence.{id-next, count-full, count-more}
 use Rattle.tree.proofs.Rows.{lay-set, lay-same, lay-blank}
 
 -- ---- leaves
@@ -132,11 +135,11 @@ abbrev pub Puts : ℕ → List ℕ → List ℕ → ℕ → ℕ → ℕ → Type
 Puts len a b x j v = (ns : List Node) (f : Node → Node) → ((n : Node) → row (f n) ≡ set (row n) j v) → Held ns len a → Held (change ns x f) len b
 
 -- ---- a new node
-pub new-over : {ns : List Node} {len : ℕ} {a b : List ℕ} (n : Node) → 512 ≤ len → Held ns len a → Held (ns ++ (n ∷ [])) 513 b
+new-over : {ns : List Node} {len : ℕ} {a b : List ℕ} (n : Node) → 512 ≤ len → Held ns len a → Held (ns ++ (n ∷ [])) 513 b
 new-over {ns} n h (held b e q) = tooMany (omega arith) (omega (arith, length-append ns (n ∷ [])))
 new-over {ns} n h (tooMany b e) = tooMany (omega arith) (omega (arith, length-append ns (n ∷ [])))
 
-pub new-filled : (ns : List Node) {len m : ℕ} {a b c d : List ℕ} (s f w : ℕ) → m ≡ len + 1 → len < 512 → Puts m a b len 2 w → Puts m b c len 3 f → Puts m c d len 4 s →
+new-filled : (ns : List Node) {len m : ℕ} {a b c d : List ℕ} (s f w : ℕ) → m ≡ len + 1 → len < 512 → Puts m a b len 2 w → Puts m b c len 3 f → Puts m c d len 4 s →
     Held ns len a → Held (ns ++ (newNode s f w ∷ [])) m d
 new-filled ns {len} {m} {a} s f w z h g2 g3 g4 (held i e q) =
     let more = ns ++ (blank ∷ []) in
@@ -147,6 +150,17 @@ new-filled ns {len} {m} {a} s f w z h g2 g3 g4 (held i e q) =
     ∙ ap (λ (n : Node). ns ++ (after (withWorld w ∷ withFormula f ∷ withSpawner s ∷ []) n ∷ [])) (getD-at ns blank [] blank len e))
     (g4 _ (withSpawner s) (λ n. refl) (g3 _ (withFormula f) (λ n. refl) (g2 more (withWorld w) (λ n. refl) start)))
 new-filled ns s f w z h g2 g3 g4 (tooMany i e) = absurd (omega arith)
+
+-- with the identifier that is drawn, where there is room and where there is none
+pub new-drawn : (ns : List Node) {len m x : ℕ} {a b c d : List ℕ} (s f w : ℕ) → x ≡ idAt len → m ≡ countAfter len → Puts m a b x 2 w → Puts m b c x 3 f → Puts m c d x 4 s →
+    Held ns len a → Held (ns ++ (newNode s f w ∷ [])) m d
+new-drawn ns {len} {m} {x} {a} {b} {c} {d} s f w i e g2 g3 g4 p = elim (decLe 512 len) [
+  | yes h ↦ subst (λ (k : ℕ). Held (ns ++ (newNode s f w ∷ [])) k d) (count-full len (sym (le-leb 512 len h)) refl ∙ sym e) (new-over (newNode s f w) h p)
+  | no h ↦
+      let room = sym (lt-leb 512 len (omega arith)) in
+      let at : x ≡ len = i ∙ sym (id-next len room refl) in
+      new-filled ns s f w (e ∙ sym (count-more len room refl)) (omega arith) (subst (λ (k : ℕ). Puts m a b k 2 w) at g2) (subst (λ (k : ℕ). Puts m b c k 3 f) at g3) (subst (λ (k : ℕ). Puts m c d k 4 s) at g4) p
+]
 
 -- ---- links
 module _ (ns : List Node) (p : Place) {place len : ℕ} {a b c d e g : List ℕ} (x y : ℕ) (z : placeCode p ≡ place)

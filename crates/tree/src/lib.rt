@@ -6,7 +6,7 @@ use graph::PossibleWorld;
 ghost use mathlib.Core.Path.{_≡_};
 ghost use mathlib.Core.List.{List, [], _∷_, _++_};
 ghost use Prim.Native.Nat.{ℕ, _≤_, _<_, _+_};
-ghost use lib.Dec.{eqb};
+ghost use lib.Dec.{eqb, leb};
 ghost use lib.ListN.{length, getD, set};
 ghost use Rattle.arrays.specs.Listed.{Listed};
 ghost use Rattle.definition.specs.Lists.{any, elem, filter};
@@ -15,6 +15,7 @@ ghost use Rattle.definition.specs.Tree.{Node, Place, nodeAt, newNode, markedAga
 ghost use Rattle.definition.specs.Subtree.{takes};
 ghost use Rattle.tree.specs.Lay.{placeCode, row, lay, Held};
 ghost use Rattle.tree.specs.Chain.{chainOf, Below};
+ghost use Rattle.tree.specs.Sequence.{idAt, countAfter};
 
 pub struct ProofTreeNodeID(pub u16);
 
@@ -32,6 +33,68 @@ impl ProofTreeNodeID {
         ensures { λ r. ⌜ r ≡ isNobody (self .0) ⌝ }
     {
         self.is(ProofTreeNodeID::NONE)
+    }
+}
+
+// The sequence that every identifier is drawn from: how many are issued, which is the one that is next; 513 where there is no room.
+pub struct ProofTreeNodeIDSequence {
+    issued: usize,
+}
+
+impl ProofTreeNodeIDSequence {
+    fn is_full(self) -> bool
+        ensures { λ r. ⌜ r ≡ leb 512 (self .issued) ⌝ }
+    {
+        512 <= self.issued
+    }
+
+    // The identifier that is next; none where there is no room.
+    fn current(self) -> ProofTreeNodeID
+        ensures { λ r. ⌜ r .0 ≡ idAt (self .issued) ⌝ }
+    {
+        if self.is_full() {
+            return ProofTreeNodeID::NONE;
+        }
+        ProofTreeNodeID(self.issued as u16)
+    }
+
+    // The sequence once that identifier is issued.
+    fn advanced(self) -> ProofTreeNodeIDSequence
+        ensures { λ r. ⌜ r .issued ≡ countAfter (self .issued) ⌝ }
+    {
+        if self.is_full() {
+            return ProofTreeNodeIDSequence { issued: 513 };
+        }
+        ProofTreeNodeIDSequence {
+            issued: self.issued + 1,
+        }
+    }
+
+    // The next identifier of the sequence that is lent.
+    pub fn next(&mut self) -> ProofTreeNodeID
+        ensures { λ r. ⌜ (r .0 ≡ idAt (now (self .entry) .issued)) × (now (self .exit) .issued ≡ countAfter (now (self .entry) .issued)) ⌝ }
+    {
+        let id = self.current();
+        *self = self.advanced();
+        id
+    }
+}
+
+// An identifier, and how many are issued with it.
+pub struct Issued {
+    pub id: ProofTreeNodeID,
+    pub len: usize,
+}
+
+// The next identifier where `len` are issued. Its contract says nothing of a sequence, so its callers need no walk.
+pub fn new_node_id(len: usize) -> Issued
+    ensures { λ r. ⌜ (r .id .0 ≡ idAt len) × (r .len ≡ countAfter len) ⌝ }
+{
+    let mut sequence = ProofTreeNodeIDSequence { issued: len };
+    let id = sequence.next();
+    Issued {
+        id: id,
+        len: sequence.issued,
     }
 }
 
@@ -160,14 +223,13 @@ pub fn new_node(
 ) -> usize
     ensures { λ r. ⌜ ((ns : List Node) → Held ns len (now (tree .entry)) → Held (ns ++ (newNode (spawner .0) (formula .0) (world .0) ∷ [])) r (now (tree .exit))) ⌝ }
 {
-    if 512 <= len {
-        return 513;
-    }
-    let x = ProofTreeNodeID(len as u16);
-    put_field(tree, len + 1, x, 2, world.0);
-    put_field(tree, len + 1, x, 3, formula.0);
-    put_field(tree, len + 1, x, 4, spawner.0);
-    len + 1
+    let drawn = new_node_id(len);
+    let x = drawn.id;
+    let count = drawn.len;
+    put_field(tree, count, x, 2, world.0);
+    put_field(tree, count, x, 3, formula.0);
+    put_field(tree, count, x, 4, spawner.0);
+    count
 }
 
 // Marks node x against its contrarian.

@@ -1,0 +1,13 @@
+-- The sequence of the nodes' identifiers. Its number n is the identifier that is next, which is how many are issued; 513 says that there is no room.
+use Prim.Native.Nat.{ℕ, _+_}
+use mathlib.Core.Bool.{cond}
+use lib.Dec.{leb}
+use Rattle.definition.specs.Records.{nobody}
+
+-- the identifier that the sequence gives next; none where 512 are issued
+unfoldable pub idAt : ℕ → ℕ
+idAt n = cond (leb 512 n) nobody n
+
+-- its number once that is issued
+unfoldable pub countAfter : ℕ → ℕ
+countAfter n = cond (leb 512 n) 513 (n + 1)
