@@ -81,8 +81,9 @@ enum wozhnerk_refusal {
  *    formula of the branch true (symmetric and transitive without reflexive: no world that reaches some world).
  *
  * The answer is one number.
- *   verdict   bit 63 is 0; bits 0-15 identifiers, 16-31 formulas, 32-47 steps, 48-55 worlds, 56 proved, 57 late; others 0
- *   refusal   bit 63 is 1; bits 0-15 record number (0 outside refusals 6 to 9), 16-31 number; others 0
+ *   verdict   bit 63 is 0; bits 0-15 identifiers, 16-31 formulas, 32-47 steps, 48-55 worlds, 56 proved, 57 late
+ *   refusal   bit 63 is 1; bits 0-15 record number (0 outside refusals 6 to 9), 16-31 number
+ * Read no other bits: they are 0 today, and the contract does not speak of them.
  * Proved and late may both be true. Neither is "open", which claims nothing about models. */
 uint64_t wozhnerk_prove(const uint8_t *branch, size_t branch_length, uint8_t flags, uint8_t *nodes, size_t nodes_length,
                         uint8_t *formulas, size_t formulas_length, uint32_t *edges, size_t edges_length);
