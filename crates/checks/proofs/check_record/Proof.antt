@@ -1,8 +1,6 @@
 use borrow.Author.Needs.{needs}
-use borrow.Author.Tests.{lt-ltb, le-ltb}
-use Rattle.definition.specs.Checks.{recordChecks}
-use Rattle.checks.proofs.Bytes.{kind-unknown, kind-known}
 use Rattle.checks.proofs.Found.{some-refusal}
+use Rattle.checks.proofs.Tests.{found-6, found-7, found-8, found-9, found-none}
 use Rattle.checks.proofs.check_record.Statement.{statement}
 use Rattle.checks.proofs.check_record.Tie as tie
 
@@ -10,11 +8,7 @@ refusal-requires : tie.Need-refusal-requires
 refusal-requires c κs = search needs
 
 returns : tie.Need-returns
-unfolding recordChecks
-returns c = (
-  λ s e d. rw (e, ← d, kind-unknown (c .before .before .before .args .x) (c .before .if1 .taken)) (c .refusal .ensures),
-  some-refusal (c .refusal .ensures),
-)
+returns c = (found-6 _ _ _ (c .before .if1 .taken) (c .refusal .ensures), some-refusal (c .refusal .ensures))
 
 stray-mark-requires : tie.Need-stray-mark-requires
 stray-mark-requires c κs = search needs
@@ -23,14 +17,7 @@ refusal-requires-2 : tie.Need-refusal-requires-2
 refusal-requires-2 c κs = search needs
 
 returns-2 : tie.Need-returns-2
-unfolding recordChecks
-returns-2 c = (
-  λ s e d.
-      let a = c .before .before .before in
-      rw (e, ← d, kind-known (a .before .before .args .x) (a .if1 .left), ← c .before .before .stray-mark .ensures, c .before .if2 .taken)
-      (c .refusal2 .ensures),
-  some-refusal (c .refusal2 .ensures),
-)
+returns-2 c = (found-7 _ _ _ (c .before .before .before .if1 .left) (c .before .before .stray-mark .ensures) (c .before .if2 .taken) (c .refusal2 .ensures), some-refusal (c .refusal2 .ensures))
 
 links-forward-requires : tie.Need-links-forward-requires
 links-forward-requires c κs = search needs
@@ -39,21 +26,9 @@ refusal-requires-3 : tie.Need-refusal-requires-3
 refusal-requires-3 c κs = search needs
 
 returns-3 : tie.Need-returns-3
-unfolding recordChecks
 returns-3 c = (
-  λ s e d.
-      let b = c .before .before in
-      let a = b .before .before .before in
-      rw (
-        e,
-        ← d,
-        kind-known (a .before .before .args .x) (a .if1 .left),
-        ← b .before .before .stray-mark .ensures,
-        b .before .if2 .left,
-        ← b .links-forward .ensures,
-        c .before .if3 .taken,
-      )
-      (c .refusal3 .ensures),
+  let b = c .before .before .before in
+      found-8 _ _ _ (b .before .before .if1 .left) (b .before .stray-mark .ensures) (b .if2 .left) (c .before .before .links-forward .ensures) (c .before .if3 .taken) (c .refusal3 .ensures),
   some-refusal (c .refusal3 .ensures),
 )
 
@@ -61,22 +36,9 @@ refusal-requires-4 : tie.Need-refusal-requires-4
 refusal-requires-4 c κs = search needs
 
 returns-4 : tie.Need-returns-4
-unfolding recordChecks
 returns-4 c = (
-  λ s e d.
-      let b = c .before .before .before in
-      let a = b .before .before .before in
-      rw (
-        e,
-        ← d,
-        kind-known (a .before .before .args .x) (a .if1 .left),
-        ← b .before .before .stray-mark .ensures,
-        b .before .if2 .left,
-        ← b .links-forward .ensures,
-        c .before .before .if3 .left,
-        lt-ltb _ _ (c .before .if4 .taken),
-      )
-      (c .refusal4 .ensures),
+  let f = c .before .before .before in
+      found-9 _ _ _ (f .before .before .before .if1 .left) (f .before .before .stray-mark .ensures) (f .before .if2 .left) (f .links-forward .ensures) (c .before .before .if3 .left) (c .before .if4 .taken) (c .refusal4 .ensures),
   some-refusal (c .refusal4 .ensures),
 )
 
@@ -84,22 +46,9 @@ accepted-requires : tie.Need-accepted-requires
 accepted-requires c κs = search needs
 
 returns-5 : tie.Need-returns-5
-unfolding recordChecks
 returns-5 c = (
-  λ s e d.
-      let b = c .before .before .before in
-      let a = b .before .before .before in
-      rw (
-        e,
-        ← d,
-        kind-known (a .before .before .args .x) (a .if1 .left),
-        ← b .before .before .stray-mark .ensures,
-        b .before .if2 .left,
-        ← b .links-forward .ensures,
-        c .before .before .if3 .left,
-        le-ltb _ _ (c .before .if4 .left),
-      )
-      (c .accepted .ensures),
+  let f = c .before .before .before in
+      found-none _ _ _ (f .before .before .before .if1 .left) (f .before .before .stray-mark .ensures) (f .before .if2 .left) (f .links-forward .ensures) (c .before .before .if3 .left) (c .before .if4 .left) (c .accepted .ensures),
   λ h. c .before .if4 .left,
 )
 
