@@ -1,70 +1,74 @@
--- Marks change the contrarian alone, so that a path and its pair are the same before and after them.
-use Prim.Native.Nat.{ℕ, zero, suc, _+_, _<_, _≤_}
-use mathlib.Core.Path.{_≡_, refl, sym, ap, _∙_}
-use mathlib.Core.Bool.{Bool, true, cond, _&&_, and-true, and-assoc}
-use mathlib.Core.List.{List, [], _∷_, _++_, map, reverse}
-use mathlib.Core.Option.{Option, Option·map}
+-- The marks of the new leaves, one after the other, and what they tell.
+use Prim.Native.Nat.{ℕ, zero, suc, _+_, _-_, _<_, _≤_}
+use mathlib.Core.Path.{_≡_, refl, sym, ap, _∙_, subst}
+use mathlib.Core.Bool.{Bool, true, false, cond, not, _&&_, _||_, and-true, and-assoc}
+use mathlib.Core.List.{List, [], _∷_, _++_, map}
+use mathlib.Core.Option.{Option, none}
+use mathlib.Core.Logic.{_≢_}
 use native.Mathlib.Omega.{arith}
-use native.Mathlib.Numerals.{add-one}
-use lib.ListN.{length, getD, take}
-use lib.Seq.{take-suc, take-all}
-use Rattle.definition.specs.Lists.{all, find, orElse}
-use Rattle.definition.specs.Records.{Rec, isNobody}
-use Rattle.definition.specs.Tree.{Node, nodeAt, upward, path}
-use Rattle.definition.specs.Contradiction.{Pair, pair, areNodesContradictory, getContradictoryNodeIds, isPair, mark, markAll, pairs}
-use Rattle.definition.proofs.Nodes.{mark-keeps, length-marks}
-use Rattle.tree.specs.Lay.{lay, Held}
+use lib.Dec.{eqb}
+use borrow.Author.Tests.{ne-eqb}
+use lib.ListN.{length}
+use Rattle.arrays.specs.Listed.{Listed, listed, tooLong}
+use Rattle.definition.specs.Lists.{all, filter, empty, upFrom}
+use Rattle.definition.specs.Records.{Rec, nobody}
+use Rattle.definition.specs.Tree.{Node, Place, Root, Left, Middle, Right, Unplaced, nodeAt, isLeaf, leavesBelow, leaves}
+use Rattle.definition.specs.Subtree.{takes}
+use Rattle.definition.specs.Contradiction.{Pair, isPair, mark, markAll, pairs}
+use Rattle.definition.proofs.Lists.{true-false, either}
+use Rattle.definition.proofs.Nodes.{length-marks}
+use Rattle.definition.proofs.Treed.{spots, placed, In, Treed}
+use Rattle.definition.proofs.Growing.{marks-keep}
+use Rattle.definition.proofs.Partners.{pairOf}
+use Rattle.definition.proofs.Fresh.{bareAt, pairAt, closedAt, newPairs, Above, Since, above-marked, pairAt-marked, closedAt-marked, open-new, since-marks, since-open}
+use Rattle.tree.specs.Lay.{lay, placeCode, Held}
 use Rattle.tree.proofs.Nodes.{held-ok, held-as, held-long}
+use Rattle.tree.proofs.Paths.{listed-as}
 
--- two trees whose nodes differ in places, children, spawners and contrarians at most
-record Alike (t u : List Node) : Type 0 where
-  size : length u ≡ length t
-  parent : (z : ℕ) → nodeAt u z .parent ≡ nodeAt t z .parent
-  world : (z : ℕ) → nodeAt u z .world ≡ nodeAt t z .world
-  formula : (z : ℕ) → nodeAt u z .formula ≡ nodeAt t z .formula
+-- ---- the path of one node
+code-placed : (p : Place) {v : ℕ} → v ≡ placeCode p → v ≢ 65535 → placed p ≡ true
+unfolding placed
+code-placed Root e h = refl
+code-placed Left e h = refl
+code-placed Middle e h = refl
+code-placed Right e h = refl
+code-placed Unplaced e h = absurd (h e)
 
-marks-alike : (ps : List (Option Pair)) (t : List Node) → Alike t (markAll t ps)
-marks-alike ps t =
-    record {
-      size = length-marks ps t;
-      parent = mark-keeps (λ (n : Node). n .parent) (λ j n. refl) ps t;
-      world = mark-keeps (λ (n : Node). n .world) (λ j n. refl) ps t;
-      formula = mark-keeps (λ (n : Node). n .formula) (λ j n. refl) ps t;
-    }
+code-loose : (p : Place) {v : ℕ} → v ≡ placeCode p → v ≡ 65535 → placed p ≡ false
+unfolding placed
+code-loose Root e h = absurd (omega (arith, e, h))
+code-loose Left e h = absurd (omega (arith, e, h))
+code-loose Middle e h = absurd (omega (arith, e, h))
+code-loose Right e h = absurd (omega (arith, e, h))
+code-loose Unplaced e h = refl
 
-find-alike : {A : Type 0} (p q : A → Bool) → ((x : A) → p x ≡ q x) → (xs : List A) → find p xs ≡ find q xs
-find-alike p q e [] = refl
-find-alike p q e (x ∷ xs) = rw (e x, find-alike p q e xs) refl
+and-false : (b : Bool) {c : Bool} → c ≡ false → (b && c) ≡ false
+and-false true e = e
+and-false false e = refl
 
-module _ (rs : List Rec) (t u : List Node) (a : Alike t u) where
-  upward-alike : (d x : ℕ) → upward d u x ≡ upward d t x
-  unfolding upward
-  upward-alike zero x = refl
-  upward-alike (suc d) x = ap (λ (l : List ℕ). cond (isNobody x) [] (x ∷ l)) (ap (upward d u) (a .parent x) ∙ upward-alike d (nodeAt t x .parent))
+module _ (rs : List Rec) (t : List Node) (x : ℕ) {len : ℕ} {a : List ℕ} (h : Held t len a) where
+  not-bare : bareAt t x ≡ false → Held (mark t (pairAt rs t x)) len a × (true ≡ closedAt rs t x)
+  unfolding mark
+  not-bare e = rw e (h, refl)
 
-  path-alike : (x : ℕ) → path u x ≡ path t x
-  unfolding path
-  path-alike x = ap (λ (d : ℕ). upward d u x) (a .size) ∙ upward-alike (length t) x
+  pub path-loose : {v : ℕ} → v ≡ placeCode (nodeAt t x .place) → v ≡ 65535 → Held (mark t (pairAt rs t x)) len a × (true ≡ closedAt rs t x)
+  path-loose e q = not-bare (ap (λ (b : Bool). b && isLeaf (nodeAt t x .children)) (code-loose (nodeAt t x .place) e q))
 
-  nodes-alike : (x y : ℕ) → areNodesContradictory rs u x y ≡ areNodesContradictory rs t x y
-  unfolding areNodesContradictory
-  nodes-alike x y = rw (a .world x, a .world y, a .formula x, a .formula y) refl
+  pub path-inner : {b : Bool} → b ≡ isLeaf (nodeAt t x .children) → b ≡ false → Held (mark t (pairAt rs t x)) len a × (true ≡ closedAt rs t x)
+  path-inner e q = not-bare (and-false (placed (nodeAt t x .place)) (sym e ∙ q))
 
-  ids-alike : (xs : List ℕ) → getContradictoryNodeIds rs u xs ≡ getContradictoryNodeIds rs t xs
-  unfolding getContradictoryNodeIds
-  ids-alike [] = refl
-  ids-alike (x ∷ xs) =
-      ap (λ (o : Option ℕ). orElse (Option·map (pair x) o) (getContradictoryNodeIds rs u xs)) (find-alike (areNodesContradictory rs u x) (areNodesContradictory rs t x) (nodes-alike x) (reverse xs))
-      ∙ ap (orElse (Option·map (pair x) (find (areNodesContradictory rs t x) (reverse xs)))) (ids-alike xs)
+pub path-marked : (rs : List Rec) (t : List Node) (x : ℕ) (o : Option Pair) {len v : ℕ} {a z : List ℕ} {b r : Bool} → Held t len a → v ≡ placeCode (nodeAt t x .place) → v ≢ 65535 →
+    b ≡ isLeaf (nodeAt t x .children) → b ≡ true → (In (spots t) x → o ≡ pairOf rs t x) → Held (mark t o) len z → r ≡ isPair o → Held (mark t (pairAt rs t x)) len z × (r ≡ closedAt rs t x)
+path-marked rs t x o {len} {z = z} h e q d leaf found marked told =
+    let i = code-placed (nodeAt t x .place) e q in
+    let bare : bareAt t x ≡ true = rw i (sym d ∙ leaf) in
+    rw bare (subst (λ (p : Option Pair). Held (mark t p) len z) (found i) marked, told ∙ ap isPair (found i))
 
--- the pair of a path is the same in the marked tree
-pub pair-marked : (rs : List Rec) (ps : List (Option Pair)) (t : List Node) (leaf : ℕ) →
-    getContradictoryNodeIds rs (markAll t ps) (path (markAll t ps) leaf) ≡ getContradictoryNodeIds rs t (path t leaf)
-pair-marked rs ps t leaf =
-    let a = marks-alike ps t in
-    ap (getContradictoryNodeIds rs (markAll t ps)) (path-alike rs t (markAll t ps) a leaf) ∙ ids-alike rs t (markAll t ps) a (path t leaf)
+-- ---- the loop of `mark_paths`: the identifiers below k are done
+upFrom-snoc : (n i : ℕ) → upFrom (suc n) i ≡ upFrom n i ++ ((i + n) ∷ [])
+upFrom-snoc zero i = ap (λ (k : ℕ). k ∷ []) (omega arith)
+upFrom-snoc (suc n) i = ap (λ (l : List ℕ). i ∷ l) (upFrom-snoc n (suc i) ∙ ap (λ (k : ℕ). upFrom n (suc i) ++ (k ∷ [])) (omega arith))
 
--- ---- one path more
 marks-snoc : (ps : List (Option Pair)) (p : Option Pair) (t : List Node) → markAll t (ps ++ (p ∷ [])) ≡ mark (markAll t ps) p
 unfolding markAll
 marks-snoc [] p t = refl
@@ -78,43 +82,72 @@ map-snoc : {A B : Type 0} (f : A → B) (xs : List A) (x : A) → map f (xs ++ (
 map-snoc f [] x = refl
 map-snoc {B = B} f (y ∷ xs) x = ap (λ (l : List B). f y ∷ l) (map-snoc f xs x)
 
-pairs-snoc : (rs : List Rec) (t : List Node) (l : List ℕ) (k : ℕ) → k < length l →
-    pairs rs t (take (k + 1) l) ≡ pairs rs t (take k l) ++ (getContradictoryNodeIds rs t (path t (getD l k 0)) ∷ [])
-unfolding pairs
-pairs-snoc rs t l k h =
-    let f : ℕ → Option Pair = λ leaf. getContradictoryNodeIds rs t (path t leaf) in
-    ap (map f) (ap (λ (j : ℕ). take j l) (add-one k) ∙ take-suc l k 0 h) ∙ map-snoc f (take k l) (getD l k 0)
+pub record Marking (rs : List Rec) (t : List Node) (old len : ℕ) (a : List ℕ) (every : Bool) (k : ℕ) : Type 0 where
+  pub nodes : Held (markAll t (newPairs rs t old (k - old))) len a
+  pub each : every ≡ all (closedAt rs t) (upFrom (k - old) old)
 
--- the loop of `mark_paths`: the first k paths are marked
-pub record Marking (rs : List Rec) (ns : List Node) (l : List ℕ) (len : ℕ) (a : List ℕ) (proved : Bool) (k : ℕ) : Type 0 where
-  pub nodes : Held (markAll ns (pairs rs ns (take k l))) len a
-  pub each : proved ≡ all isPair (pairs rs ns (take k l))
+pub marking-start : (rs : List Rec) {t : List Node} {old len : ℕ} {a : List ℕ} → Held t len a → Marking rs t old len a true old
+unfolding markAll
+marking-start rs {t} {old} {len} {a} h =
+    let z : old - old ≡ 0 = omega arith in
+    record { nodes = rw z h; each = rw z refl }
 
-pub marking-start : (rs : List Rec) {ns : List Node} (l : List ℕ) {len : ℕ} {a : List ℕ} → Held ns len a → Marking rs ns l len a true 0
-unfolding markAll pairs
-marking-start rs l p = record { nodes = p; each = refl }
-
-module _ {rs : List Rec} {ns : List Node} {l : List ℕ} {len : ℕ} {a : List ℕ} {proved : Bool} {k : ℕ} (m : Marking rs ns l len a proved k) where
-  pub marking-next : (x : ℕ) (o : Option Pair) {s now : Bool} {b : List ℕ} → k < length l → len ≤ 512 → x ≡ getD l k 0 →
-      ((ms : List Node) → length ms ≡ len → len ≤ 512 → a ≡ lay ms → o ≡ getContradictoryNodeIds rs ms (path ms x)) →
-      ((ms : List Node) → Held ms len a → Held (mark ms o) len b) → s ≡ isPair o → now ≡ (proved && s) → Marking rs ns l len b now (k + 1)
-  marking-next x o {s} {now} {b} h few e f g q z =
-      let ps = pairs rs ns (take k l) in
-      let ok = held-ok (m .nodes) few in
-      let eo : o ≡ getContradictoryNodeIds rs ns (path ns (getD l k 0)) =
-      f (markAll ns ps) (ok .0) few (ok .1) ∙ pair-marked rs ps ns x ∙ ap (λ (v : ℕ). getContradictoryNodeIds rs ns (path ns v)) e in
-      let es : pairs rs ns (take (k + 1) l) ≡ ps ++ (o ∷ []) =
-      pairs-snoc rs ns l k h ∙ ap (λ (p : Option Pair). ps ++ (p ∷ [])) (sym eo) in
+module _ {rs : List Rec} {t : List Node} {old len : ℕ} {a : List ℕ} {every : Bool} {k : ℕ} (m : Marking rs t old len a every k) where
+  pub marking-next : {b now : Bool} {z : List ℕ} → Above rs t old → old ≤ k →
+      ((ms : List Node) → Held ms len a → Above rs ms old → old ≤ k → Held (mark ms (pairAt rs ms k)) len z × (b ≡ closedAt rs ms k)) → now ≡ (every && b) → Marking rs t old len z now (k + 1)
+  marking-next {b} {now} {z} o low f q =
+      let ps = newPairs rs t old (k - old) in
+      let v = markAll t ps in
+      let g = f v (m .nodes) (above-marked rs t old ps o) low in
+      let d : (k + 1) - old ≡ suc (k - old) = omega arith in
+      let at : old + (k - old) ≡ k = omega arith in
+      let ids : upFrom ((k + 1) - old) old ≡ upFrom (k - old) old ++ (k ∷ []) =
+      ap (λ (n : ℕ). upFrom n old) d ∙ upFrom-snoc (k - old) old ∙ ap (λ (i : ℕ). upFrom (k - old) old ++ (i ∷ [])) at in
       record {
-        nodes = held-as (markAll ns (pairs rs ns (take (k + 1) l))) (sym (ap (markAll ns) es ∙ marks-snoc ps o ns)) (g (markAll ns ps) (m .nodes));
-        each = z ∙ ap (λ (v : Bool). v && s) (m .each) ∙ ap (λ (v : Bool). all isPair ps && v) q ∙ sym (ap (all isPair) es ∙ all-snoc isPair ps o);
+        nodes = held-as (markAll t (newPairs rs t old ((k + 1) - old)))
+            (sym (ap (λ (l : List ℕ). markAll t (map (pairAt rs t) l)) ids ∙ ap (markAll t) (map-snoc (pairAt rs t) (upFrom (k - old) old) k) ∙ marks-snoc ps (pairAt rs t k) t ∙ ap (mark v) (sym (pairAt-marked rs t old ps k)))) (g .0);
+        each = q ∙ ap (λ (c : Bool). c && b) (m .each) ∙ ap (λ (c : Bool). all (closedAt rs t) (upFrom (k - old) old) && c) (g .1 ∙ closedAt-marked rs t old ps k)
+            ∙ sym (ap (all (closedAt rs t)) ids ∙ all-snoc (closedAt rs t) (upFrom (k - old) old) k);
       }
 
-  pub marking-end : length l ≤ k → Held (markAll ns (pairs rs ns l)) len a × (proved ≡ all isPair (pairs rs ns l))
-  marking-end h =
-      let e : take k l ≡ l = take-all k l h in
-      (held-as (markAll ns (pairs rs ns l)) (ap (λ (v : List ℕ). markAll ns (pairs rs ns v)) e) (m .nodes), m .each ∙ ap (λ (v : List ℕ). all isPair (pairs rs ns v)) e)
+  pub marking-end : k - old ≡ len - old → Held (markAll t (newPairs rs t old (len - old))) len a × (every ≡ all (closedAt rs t) (upFrom (len - old) old))
+  marking-end e = rw (← e) (m .nodes, m .each)
 
+-- ---- the whole check
 -- too many nodes stay too many
 pub marked-full : {ns : List Node} {len : ℕ} {a : List ℕ} (ps : List (Option Pair)) → Held ns len a → 512 < len → Held (markAll ns ps) len a
 marked-full {ns} ps p h = held-long (markAll ns ps) p h (omega (arith, length-marks ps ns))
+
+empty-listed : (l : List ℕ) {n : ℕ} {a : List ℕ} → Listed l n a → eqb n 0 ≡ empty l
+empty-listed [] (listed b e q) = rw (← e) refl
+empty-listed (x ∷ l) {n = n} (listed b e q) = ne-eqb n 0 (λ z. omega (arith, e, z))
+empty-listed [] (tooLong b e) = absurd (omega arith)
+empty-listed (x ∷ l) {n = n} (tooLong b e) = ne-eqb n 0 (λ z. omega (arith, e, z))
+
+pub none-listed : (t : List Node) {len n : ℕ} {a : List ℕ} → length t ≡ len → Listed (filter (takes t 0) (leavesBelow len t 0)) n a → eqb n 0 ≡ empty (filter (takes t 0) (leaves t))
+unfolding leaves
+none-listed t e l = empty-listed _ l ∙ ap (λ (d : ℕ). empty (filter (takes t 0) (leavesBelow d t 0))) (sym e)
+
+module _ (rs : List Rec) (t : List Node) {old len : ℕ} {a z : List ℕ} {every : Bool} (s : Since rs t old) (h : Held t len a) (few : len ≤ 512)
+    (m : Held (markAll t (newPairs rs t old (len - old))) len z × (every ≡ all (closedAt rs t) (upFrom (len - old) old))) where
+  abbrev u : List Node
+  u = markAll t (pairs rs t (leaves t))
+
+  size : length t ≡ len
+  size = held-ok h few .0
+
+  marked : Held u len z
+  marked = held-as u (ap (λ (n : ℕ). markAll t (newPairs rs t old (n - old))) (sym size) ∙ since-marks rs t old s) (m .0)
+
+  pub checked-still : len ≤ old → Held u len z × (len ≤ 512 → false ≡ all isPair (pairs rs t (leaves t)))
+  checked-still l = (marked, λ _. sym (s .still (omega (arith, size, l))))
+
+  pub checked-open : every ≡ false → Held u len z × (len ≤ 512 → false ≡ all isPair (pairs rs t (leaves t)))
+  checked-open e = (marked, λ _. sym (open-new rs t (s .over .treed) (len - old) old (sym (m .1) ∙ e)))
+
+  pub checked-closed : {r : Bool} → ((ns : List Node) → Treed ns → length ns ≡ len → len ≤ 512 → z ≡ lay ns → r ≡ empty (filter (takes ns 0) (leaves ns))) →
+      Held u len z × (len ≤ 512 → r ≡ all isPair (pairs rs t (leaves t)))
+  checked-closed f =
+      let ok = held-ok marked few in
+      let small : length t ≤ nobody = omega (arith, size, few) in
+      (marked, λ _. f u (marks-keep (pairs rs t (leaves t)) t .treed (s .over .treed) (omega (arith, ok .0, few))) (ok .0) few (ok .1) ∙ since-open rs t old s small)

@@ -1,24 +1,28 @@
--- The path of a leaf, and its search for a pair.
+-- The search of a path for a pair.
 use Prim.Native.Nat.{ℕ, zero, suc, _+_, _-_, _<_, _≤_}
-use mathlib.Core.Path.{_≡_, refl, sym, ap, _∙_}
-use mathlib.Core.Bool.{Bool, true, false, cond}
-use mathlib.Core.List.{List, [], _∷_, _++_, append-assoc, append-nil, reverse, reverse-append}
+use mathlib.Core.Path.{_≡_, refl, sym, ap, _∙_, subst}
+use mathlib.Core.Bool.{Bool, true, false, cond, not, _&&_, _||_}
+use mathlib.Core.List.{List, [], _∷_, _++_, reverse, reverse-append}
 use mathlib.Core.Option.{Option, none, some, Option·map}
+use mathlib.Core.Logic.{_⊎_, inl, inr, ⊎-elim, _≢_}
 use native.Mathlib.Omega.{arith}
-use native.Mathlib.Numerals.{add-one}
 use lib.Dec.{eqb}
-use lib.ListN.{length, getD, take, drop, drop-of-length-le}
-use lib.Seq.{take-suc, take-all, drop-cons, drop-append-le, length-take-le}
-use Rattle.arrays.specs.Listed.{Listed}
-use Rattle.arrays.proofs.Listed.{listed-fits}
-use Rattle.definition.specs.Lists.{find, orElse}
-use Rattle.definition.specs.Records.{Rec, isNobody, formulaOf}
+use borrow.Author.Tests.{eqb-true}
+use lib.ListN.{length, drop, List·getD-eq-default}
+use Rattle.definition.specs.Lists.{find, orElse, empty}
+use Rattle.definition.specs.Records.{Rec, nobody, isNobody, formulaOf}
 use Rattle.definition.specs.Tree.{Node, nodeAt, upward, path}
-use Rattle.definition.specs.Contradiction.{Pair, pair, areFormulasContradictory, areNodesContradictory, getContradictoryNodeIds, isPair}
-use Rattle.definition.proofs.Lists.{true-false}
-use Rattle.tree.proofs.Paths.{listed-as}
+use Rattle.definition.specs.Contradiction.{Pair, pair, said, denied, opposed, areFormulasContradictory, areNodesContradictory, isPair, getContradictoryNodeIds}
+use Rattle.definition.proofs.Lists.{true-false, alike, either, and-left, and-right}
+use Rattle.definition.proofs.Nodes.{blank}
+use Rattle.definition.proofs.Treed.{spots, In, Treed, depth-low}
+use Rattle.definition.proofs.Partners.{earlier, partner, pairOf, path-nobody, pair-below}
+use Rattle.definition.proofs.Fresh.{Above}
+use Rattle.semantics.specs.declared.Claim.{Claim}
+use Rattle.semantics.specs.Literal.{atomsIn, Claims}
+use Rattle.contradictions.specs.Found.{known}
 
--- ---- the path
+-- ---- the way up
 up-none : (t : List Node) (d x : ℕ) {b : Bool} → b ≡ isNobody x → b ≡ true → upward d t x ≡ []
 unfolding upward
 up-none t zero x e h = refl
@@ -32,53 +36,20 @@ up-node : (t : List Node) (d e x up : ℕ) {b : Bool} → d ≡ suc e → b ≡ 
 unfolding upward
 up-node t d e x up z q h u = rw (z, ← q, h, u) refl
 
-up-short : (t : List Node) (d x : ℕ) → length (upward d t x) ≤ d
+-- what is above x
+up-tail : (t : List Node) (d x : ℕ) → length t ≤ 512 → drop 1 (upward d t x) ≡ upward (d - 1) t (nodeAt t x .parent)
 unfolding upward
-up-short t zero x = omega arith
-up-short t (suc d) x = go (isNobody x) (up-short t d (nodeAt t x .parent))
+up-tail t zero x h = refl
+up-tail t (suc d) x h = ⊎-elim (λ e. none-above e) (λ e. rw e (ap (λ (k : ℕ). upward k t (nodeAt t x .parent)) same)) (either (isNobody x))
   where
-    go : (b : Bool) → length (upward d t (nodeAt t x .parent)) ≤ d → length (cond b [] (x ∷ upward d t (nodeAt t x .parent))) ≤ suc d
-    go true h = omega arith
-    go false h = omega arith
+    same : d ≡ suc d - 1
+    same = omega arith
 
-pub path-fits : (t : List Node) (x : ℕ) {n : ℕ} {a : List ℕ} → length t ≤ 512 → Listed (path t x) n a → n ≤ 512
-unfolding path
-path-fits t x h p = listed-fits p (omega (arith, up-short t (length t) x))
-
--- the loop of `path_of`: the nodes listed so far, and what is left of the path
-pub record Climbing (t : List Node) (whole : List ℕ) (len : ℕ) (a : List ℕ) (cur n k : ℕ) : Type 0 where
-  pub done : List ℕ
-  pub has : Listed done n a
-  pub rest : done ++ upward (len - k) t cur ≡ whole
-
-pub climbing-start : (t : List Node) (x len : ℕ) {a : List ℕ} → length t ≡ len → Listed [] 0 a → Climbing t (path t x) len a x 0 0
-unfolding path
-climbing-start t x len e p =
-    let z : len - 0 ≡ length t = omega arith in
-    record { done = []; has = p; rest = ap (λ (d : ℕ). upward d t x) z }
-
-module _ {t : List Node} {whole : List ℕ} {len : ℕ} {a : List ℕ} {cur n k : ℕ} (c : Climbing t whole len a cur n k) where
-  climbed : upward (len - k) t cur ≡ [] → Listed whole n a
-  climbed e = listed-as whole (sym (append-nil (c .done)) ∙ ap (λ (l : List ℕ). c .done ++ l) (sym e) ∙ c .rest) (c .has)
-
-  pub climbing-none : {b : Bool} → b ≡ isNobody cur → b ≡ true → Listed whole n a
-  climbing-none e h = climbed (up-none t (len - k) cur e h)
-
-  pub climbing-end : len ≤ k → Listed whole n a
-  climbing-end h = climbed (up-end t (len - k) cur (omega arith))
-
-  pub climbing-next : {b : Bool} {a′ : List ℕ} (up m : ℕ) → k < len → b ≡ isNobody cur → b ≡ false →
-      ((l : List ℕ) → Listed l n a → Listed (l ++ (cur ∷ [])) m a′) → up ≡ nodeAt t cur .parent → Climbing t whole len a′ up m (k + 1)
-  climbing-next up m h e node f u =
-      let z : len - k ≡ suc (len - (k + 1)) = omega arith in
-      record {
-        done = c .done ++ (cur ∷ []);
-        has = f (c .done) (c .has);
-        rest =
-            append-assoc (c .done) (cur ∷ []) (upward (len - (k + 1)) t up)
-            ∙ ap (λ (l : List ℕ). c .done ++ l) (sym (up-node t (len - k) (len - (k + 1)) cur up z e node u))
-            ∙ c .rest;
-      }
+    none-above : isNobody x ≡ true → drop 1 (cond (isNobody x) [] (x ∷ upward d t (nodeAt t x .parent))) ≡ upward (suc d - 1) t (nodeAt t x .parent)
+    none-above e =
+        let q : x ≡ nobody = eqb-true x nobody e in
+        let out : nodeAt t x ≡ blank = List·getD-eq-default t blank {n = x} (omega (arith, h, q)) in
+        rw e (sym (up-none t (suc d - 1) (nodeAt t x .parent) {b = true} (rw out) refl))
 
 -- ---- two nodes
 module _ (rs : List Rec) (t : List Node) (x y : ℕ) {v w : ℕ} {b : Bool} (ev : v ≡ nodeAt t x .world) (ew : w ≡ nodeAt t y .world) (e : b ≡ eqb v w) where
@@ -86,71 +57,159 @@ module _ (rs : List Rec) (t : List Node) (x y : ℕ) {v w : ℕ} {b : Bool} (ev 
   unfolding areNodesContradictory
   other-world h = rw (← ev, ← ew, ← e, h) refl
 
-  pub same-world : {r : Bool} {f g : ℕ} → b ≡ true → f ≡ nodeAt t x .formula → g ≡ nodeAt t y .formula →
-      r ≡ areFormulasContradictory rs (formulaOf rs f) (formulaOf rs g) → r ≡ areNodesContradictory rs t x y
+  pub same-world : {r : Bool} {g : ℕ} → b ≡ true → g ≡ nodeAt t y .formula →
+      r ≡ areFormulasContradictory rs (formulaOf rs (nodeAt t x .formula)) (formulaOf rs g) → r ≡ areNodesContradictory rs t x y
   unfolding areNodesContradictory
-  same-world h ef eg er = rw (← ev, ← ew, ← e, h, ← ef, ← eg) er
+  same-world h eg er = rw (← ev, ← ew, ← e, h, ← eg) er
 
--- ---- the loop of `find_earlier`: of the entries from `from` on, those below j are left
-module _ (p : ℕ → Bool) (l : List ℕ) (from : ℕ) where
-  abbrev pub left : ℕ → Option ℕ
-  left j = find p (reverse (drop from (take j l)))
+pub claims-as : (rs : List Rec) {f g : ℕ} {c : Claim} → f ≡ g → Claims rs (formulaOf rs f) c → Claims rs (formulaOf rs g) c
+claims-as rs {c = c} e k = subst (λ (v : ℕ). Claims rs (formulaOf rs v) c) e k
 
-  pub left-start : (n : ℕ) → length l ≡ n → left n ≡ find p (reverse (drop from l))
-  left-start n e = ap (λ (v : List ℕ). find p (reverse (drop from v))) (take-all n l (omega arith))
+-- ---- the loop of `find_above`: the nodes from cur on are left, and the last hit stands for those before
+else-none : {A : Type 0} (o : Option A) → orElse o none ≡ o
+else-none none = refl
+else-none (some x) = refl
 
-  pub left-none : (j : ℕ) → j ≤ length l → j ≤ from → left j ≡ none
-  left-none j b h = ap (λ (v : List ℕ). find p (reverse v)) (drop-of-length-le (take j l) {i = from} (omega (arith, length-take-le j l b)))
+find-snoc : (p : ℕ → Bool) (xs : List ℕ) (y : ℕ) → find p (xs ++ (y ∷ [])) ≡ orElse (find p xs) (cond (p y) (some y) none)
+find-snoc p [] y = refl
+find-snoc p (x ∷ xs) y = go (p x) (find-snoc p xs y)
+  where
+    go : (b : Bool) → find p (xs ++ (y ∷ [])) ≡ orElse (find p xs) (cond (p y) (some y) none) →
+        cond b (some x) (find p (xs ++ (y ∷ []))) ≡ orElse (cond b (some x) (find p xs)) (cond (p y) (some y) none)
+    go true e = refl
+    go false e = e
 
-  further : (j : ℕ) → j < length l → from ≤ j → left (suc j) ≡ cond (p (getD l j 0)) (some (getD l j 0)) (left j)
-  further j b h =
-      let y = getD l j 0 in
-      ap (λ (v : List ℕ). find p (reverse v))
-      (ap (drop from) (take-suc l j 0 b) ∙ drop-append-le from (take j l) (y ∷ []) (omega (arith, length-take-le j l (omega arith))))
-      ∙ ap (find p) (reverse-append (drop from (take j l)) (y ∷ []))
+hit-or : (o : Option ℕ) (b : Bool) (y last : ℕ) → isNobody y ≡ false → orElse (orElse o (cond b (some y) none)) (known last) ≡ orElse o (known (cond b y last))
+hit-or (some x) b y last h = refl
+hit-or none true y last h = rw h refl
+hit-or none false y last h = refl
 
-  module _ (j : ℕ) {y : ℕ} {b : Bool} (top : j ≤ length l) (h : from < j) (e : y ≡ getD l (j - 1) 0) (q : b ≡ p y) where
-    step : left j ≡ cond b (some y) (left (j - 1))
-    step =
-        let z : j ≡ suc (j - 1) = omega arith in
-        ap left z ∙ further (j - 1) (omega arith) (omega arith) ∙ ap (λ (v : ℕ). cond (p v) (some v) (left (j - 1))) (sym e) ∙ ap (λ (v : Bool). cond v (some y) (left (j - 1))) (sym q)
+module _ (rs : List Rec) (t : List Node) (x : ℕ) where
+  abbrev against : ℕ → Bool
+  against = areNodesContradictory rs t x
 
-    pub left-hit : b ≡ true → left j ≡ some y
-    left-hit s = step ∙ ap (λ (v : Bool). cond v (some y) (left (j - 1))) s
+  pub record Seeking (len cur last k : ℕ) : Type 0 where
+    pub rest : orElse (find against (reverse (upward (len - k) t cur))) (known last) ≡ partner rs t x
 
-    pub left-miss : b ≡ false → left j ≡ left (j - 1)
-    left-miss s = step ∙ ap (λ (v : Bool). cond v (some y) (left (j - 1))) s
+  pub seeking-start : (len cur last k : ℕ) → length t ≡ len → len ≤ 512 → cur ≡ nodeAt t x .parent → last ≡ nobody → k ≡ 1 → Seeking len cur last k
+  unfolding partner earlier path
+  seeking-start len cur last k e h c l one =
+      record {
+        rest =
+            rw (l, one, c) (else-none (find against (reverse (upward (len - 1) t (nodeAt t x .parent))))
+            ∙ ap (λ (xs : List ℕ). find against (reverse xs)) (ap (λ (n : ℕ). upward (n - 1) t (nodeAt t x .parent)) (sym e) ∙ sym (up-tail t (length t) x (omega arith))));
+      }
 
--- ---- the loop of `get_contradictory_node_ids`: the path from entry i on is left
-module _ (rs : List Rec) (t : List Node) (l : List ℕ) where
-  pub ids-end : (i : ℕ) → length l ≤ i → getContradictoryNodeIds rs t (drop i l) ≡ none
-  unfolding getContradictoryNodeIds
-  ids-end i h = ap (getContradictoryNodeIds rs t) (drop-of-length-le l h)
+  module _ {len cur last k : ℕ} (s : Seeking len cur last k) where
+    ended : upward (len - k) t cur ≡ [] → Option·map (pair x) (known last) ≡ Option·map (pair x) (partner rs t x)
+    ended e = ap (Option·map (pair x)) (sym (ap (λ (xs : List ℕ). orElse (find against (reverse xs)) (known last)) e) ∙ s .rest)
 
-  ids-cons : (x : ℕ) (xs : List ℕ) → getContradictoryNodeIds rs t (x ∷ xs) ≡
-      orElse (Option·map (pair x) (find (areNodesContradictory rs t x) (reverse xs))) (getContradictoryNodeIds rs t xs)
-  unfolding getContradictoryNodeIds
-  ids-cons x xs = refl
+    pub seeking-none : {b : Bool} → b ≡ isNobody cur → b ≡ true → Option·map (pair x) (known last) ≡ Option·map (pair x) (partner rs t x)
+    seeking-none e h = ended (up-none t (len - k) cur e h)
 
-  first : {b : Bool} (o rest : Option Pair) → b ≡ isPair o → b ≡ true → orElse o rest ≡ o
-  unfolding isPair
-  first none rest e h = true-false (sym h ∙ e)
-  first (some p) rest e h = refl
+    pub seeking-end : len ≤ k → Option·map (pair x) (known last) ≡ Option·map (pair x) (partner rs t x)
+    seeking-end h = ended (up-end t (len - k) cur (omega arith))
 
-  second : {b : Bool} (o rest : Option Pair) → b ≡ isPair o → b ≡ false → orElse o rest ≡ rest
-  unfolding isPair
-  second none rest e h = refl
-  second (some p) rest e h = true-false (sym e ∙ h)
+    pub seeking-next : {b hit : Bool} (up now : ℕ) → k < len → b ≡ isNobody cur → b ≡ false → hit ≡ against cur → now ≡ cond hit cur last → up ≡ nodeAt t cur .parent → Seeking len up now (k + 1)
+    seeking-next {b} {hit} up now h e node q z u =
+        let d : len - k ≡ suc (len - (k + 1)) = omega arith in
+        let more = upward (len - (k + 1)) t up in
+        record {
+          rest =
+              rw z (sym (hit-or (find against (reverse more)) hit cur last (sym e ∙ node))
+              ∙ ap (λ (c : Bool). orElse (orElse (find against (reverse more)) (cond c (some cur) none)) (known last)) q
+              ∙ ap (λ (o : Option ℕ). orElse o (known last)) (sym (find-snoc against (reverse more) cur) ∙ ap (find against) (sym (reverse-append (cur ∷ []) more)))
+              ∙ ap (λ (xs : List ℕ). orElse (find against (reverse xs)) (known last)) (sym (up-node t (len - k) (len - (k + 1)) cur up d e node u))
+              ∙ s .rest);
+        }
 
-  module _ (i x : ℕ) (o : Option Pair) {b : Bool} (h : i < length l) (e : x ≡ getD l i 0)
-      (eo : o ≡ Option·map (pair x) (find (areNodesContradictory rs t x) (reverse (drop (i + 1) l)))) (eb : b ≡ isPair o) where
-    ids-step : getContradictoryNodeIds rs t (drop i l) ≡ orElse o (getContradictoryNodeIds rs t (drop (i + 1) l))
-    ids-step =
-        let z : drop i l ≡ x ∷ drop (i + 1) l = drop-cons l i 0 h ∙ ap (λ (v : ℕ). v ∷ drop (suc i) l) (sym e) ∙ ap (λ (j : ℕ). x ∷ drop j l) (sym (add-one i)) in
-        ap (getContradictoryNodeIds rs t) z ∙ ids-cons x (drop (i + 1) l) ∙ ap (λ (v : Option Pair). orElse v (getContradictoryNodeIds rs t (drop (i + 1) l))) (sym eo)
+  -- a formula that says and denies nothing
+  nothing-found : ((y : ℕ) → against y ≡ false) → (ys : List ℕ) → find against ys ≡ none
+  nothing-found h [] = refl
+  nothing-found h (y ∷ ys) = rw (h y) (nothing-found h ys)
 
-    pub ids-hit : b ≡ true → getContradictoryNodeIds rs t (drop i l) ≡ o
-    ids-hit s = ids-step ∙ first o (getContradictoryNodeIds rs t (drop (i + 1) l)) eb s
+  no-atoms : (xs : List ℕ) → empty xs ≡ true → (ys : List ℕ) → (opposed xs ys ≡ false) × (opposed ys xs ≡ false)
+  unfolding opposed
+  no-atoms [] e [] = (refl, refl)
+  no-atoms [] e (y ∷ ys) = (refl, refl)
+  no-atoms (z ∷ zs) e ys = true-false (sym e)
 
-    pub ids-miss : b ≡ false → getContradictoryNodeIds rs t (drop i l) ≡ getContradictoryNodeIds rs t (drop (i + 1) l)
-    ids-miss s = ids-step ∙ second o (getContradictoryNodeIds rs t (drop (i + 1) l)) eb s
+  pub no-literal : {c : Claim} {b : Bool} → Claims rs (formulaOf rs (nodeAt t x .formula)) c → b ≡ (empty (atomsIn (c .says)) && empty (atomsIn (c .denies))) → b ≡ true →
+      none ≡ Option·map (pair x) (partner rs t x)
+  unfolding partner areNodesContradictory areFormulasContradictory
+  no-literal {c} k e h =
+      let p = formulaOf rs (nodeAt t x .formula) in
+      let both = sym e ∙ h in
+      let s : empty (said rs p) ≡ true = ap (empty {A = ℕ}) (sym (k .says)) ∙ and-left _ _ both in
+      let d : empty (denied rs p) ≡ true = ap (empty {A = ℕ}) (sym (k .denies)) ∙ and-right (empty (atomsIn (c .says))) _ both in
+      ap (Option·map (pair x)) (sym (nothing-found (λ y.
+      let q = formulaOf rs (nodeAt t y .formula) in
+      rw (no-atoms (said rs p) s (denied rs q) .0, no-atoms (denied rs p) d (said rs q) .1) (and-false (eqb (nodeAt t x .world) (nodeAt t y .world)))) (earlier t x)))
+    where
+      and-false : (b : Bool) → (b && false) ≡ false
+      and-false true = refl
+      and-false false = refl
+
+-- ---- the loop of `get_contradictory_node_ids`: the pair of the leaf is that of cur, which is in the tree or its root's parent
+pub record Searching (rs : List Rec) (t : List Node) (old leaf cur len k : ℕ) : Type 0 where
+  pub over : Above rs t old
+  pub same : pairOf rs t cur ≡ pairOf rs t leaf
+  pub at : (In (spots t) cur × (k + over .treed .depth cur < len) × ((old ≤ cur) ⊎ (pairOf rs t cur ≡ none))) ⊎ (cur ≡ nobody)
+
+pub searching-start : (rs : List Rec) (t : List Node) (old leaf len : ℕ) → length t ≡ len → Above rs t old → In (spots t) leaf → old ≤ leaf → Searching rs t old leaf leaf len 0
+searching-start rs t old leaf len e a i l =
+    record { over = a; same = refl; at = inl (i, omega (arith, e, depth-low t (a .treed) leaf i), inl l) }
+
+pair-nobody : (rs : List Rec) (t : List Node) → pairOf rs t nobody ≡ none
+unfolding pairOf getContradictoryNodeIds
+pair-nobody rs t = rw (path-nobody t)
+
+first : {b : Bool} (o rest : Option Pair) → b ≡ isPair o → b ≡ true → orElse o rest ≡ o
+unfolding isPair
+first none rest e h = true-false (sym h ∙ e)
+first (some p) rest e h = refl
+
+second : {b : Bool} (o rest : Option Pair) → b ≡ isPair o → b ≡ false → orElse o rest ≡ rest
+unfolding isPair
+second none rest e h = refl
+second (some p) rest e h = true-false (sym e ∙ h)
+
+module _ {rs : List Rec} {t : List Node} {old leaf cur len k : ℕ} (s : Searching rs t old leaf cur len k) where
+  none-at : cur ≡ nobody → none ≡ pairOf rs t leaf
+  none-at e = sym (pair-nobody rs t) ∙ ap (pairOf rs t) (sym e) ∙ s .same
+
+  pub searching-none : {b : Bool} → b ≡ isNobody cur → b ≡ true → none ≡ pairOf rs t leaf
+  searching-none e h = none-at (eqb-true cur nobody (sym e ∙ h))
+
+  pub searching-old : cur < old → none ≡ pairOf rs t leaf
+  searching-old h =
+      ⊎-elim (λ (a : In (spots t) cur × (k + s .over .treed .depth cur < len) × ((old ≤ cur) ⊎ (pairOf rs t cur ≡ none))).
+      ⊎-elim (λ (l : old ≤ cur). absurd (omega arith)) (λ q. sym q ∙ s .same) (a .2)) none-at (s .at)
+
+  pub searching-end : len ≤ k → none ≡ pairOf rs t leaf
+  searching-end h =
+      ⊎-elim (λ (a : In (spots t) cur × (k + s .over .treed .depth cur < len) × ((old ≤ cur) ⊎ (pairOf rs t cur ≡ none))). absurd (omega (arith, h, a .1))) none-at (s .at)
+
+  module _ {b : Bool} (e : b ≡ isNobody cur) (node : b ≡ false) where
+    here : In (spots t) cur × (k + s .over .treed .depth cur < len)
+    here =
+        ⊎-elim (λ (a : In (spots t) cur × (k + s .over .treed .depth cur < len) × ((old ≤ cur) ⊎ (pairOf rs t cur ≡ none))). (a .0, a .1))
+        (λ (q : cur ≡ nobody). true-false (sym (ap isNobody q) ∙ sym e ∙ node)) (s .at)
+
+    module _ (o : Option Pair) {c : Bool} (eo : o ≡ Option·map (pair cur) (partner rs t cur)) (ec : c ≡ isPair o) where
+      step : orElse o (pairOf rs t (nodeAt t cur .parent)) ≡ pairOf rs t leaf
+      step = ap (λ (v : Option Pair). orElse v (pairOf rs t (nodeAt t cur .parent))) eo ∙ sym (pair-below t (s .over .treed) rs cur (here .0)) ∙ s .same
+
+      pub searching-hit : c ≡ true → o ≡ pairOf rs t leaf
+      searching-hit h = sym (first o (pairOf rs t (nodeAt t cur .parent)) ec h) ∙ step
+
+      pub searching-next : (up : ℕ) → c ≡ false → old ≤ cur → up ≡ nodeAt t cur .parent → Searching rs t old leaf up len (k + 1)
+      searching-next up h l u =
+          let r = s .over .treed in
+          rw u (record {
+            over = s .over;
+            same = sym (second o (pairOf rs t (nodeAt t cur .parent)) ec h) ∙ step;
+            at =
+                ⊎-elim (λ (z : cur ≡ 0). inr (ap (λ (v : ℕ). nodeAt t v .parent) z ∙ r .orphan))
+                (λ (z : cur ≢ 0). let a = r .above cur (here .0) z in inl (a .there, omega (arith, here .1, a .deeper), s .over .above cur (here .0) l)) (alike cur 0);
+          })

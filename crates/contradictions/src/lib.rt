@@ -1,28 +1,37 @@
 // Contradictions of the paths: path.rs's get_contradictory_node_ids and tree.rs's check_for_contradictions.
+// A tree that was checked when it had fewer nodes is searched at the leaves that are new, and there from the new nodes alone.
 // Of a call whose arrays lay out nothing of the kind that its contract names: it ends and stays in bounds; its outcome is free.
-use arrays::nth;
-use arrays::push;
-use semantics::are_formulas_contradictory;
+use graph::PossibleWorld;
+use semantics::Claim;
+use semantics::claim_of;
+use semantics::contradicts;
+use semantics::is_no_literal;
 use tree::ProofTreeNodeID;
 use tree::formula_of;
-use tree::leaves_below;
+use tree::is_leaf;
 use tree::mark_child_node_as_contradictory;
 use tree::parent_of;
+use tree::place_of;
+use tree::takers_below;
 use tree::world_of;
 ghost use mathlib.Core.Path.{_≡_};
-ghost use mathlib.Core.Bool.{_&&_};
-ghost use mathlib.Core.List.{List, [], reverse};
+ghost use mathlib.Core.Bool.{_&&_, cond};
+ghost use mathlib.Core.List.{List};
 ghost use mathlib.Core.Option.{Option·map};
-ghost use Prim.Native.Nat.{ℕ, _≤_};
-ghost use lib.ListN.{length, drop};
-ghost use Rattle.arrays.specs.Listed.{Listed};
-ghost use Rattle.definition.specs.Lists.{all, find};
-ghost use Rattle.definition.specs.Records.{Rec};
-ghost use Rattle.definition.specs.Tree.{Node, leaves, path};
-ghost use Rattle.definition.specs.Contradiction.{pair, areNodesContradictory, getContradictoryNodeIds, isPair, mark, markAll, pairs};
+ghost use Prim.Native.Nat.{ℕ, _≤_, _-_};
+ghost use lib.ListN.{length};
+ghost use Rattle.definition.specs.Lists.{all, filter, empty, upFrom};
+ghost use Rattle.definition.specs.Records.{Rec, formulaOf};
+ghost use Rattle.definition.specs.Tree.{Node, nodeAt, leaves};
+ghost use Rattle.definition.specs.Subtree.{takes};
+ghost use Rattle.definition.specs.Contradiction.{pair, areNodesContradictory, isPair, mark, markAll, pairs};
+ghost use Rattle.definition.proofs.Treed.{spots, In, Treed};
+ghost use Rattle.definition.proofs.Partners.{partner, pairOf};
+ghost use Rattle.definition.proofs.Fresh.{pairAt, closedAt, newPairs, Above, Since};
 ghost use Rattle.formula.specs.Recorded.{Recorded};
+ghost use Rattle.semantics.specs.Literal.{Claims};
 ghost use Rattle.tree.specs.Lay.{lay, Held};
-ghost use Rattle.contradictions.specs.Found.{found};
+ghost use Rattle.contradictions.specs.Found.{found, known};
 
 // What the search of a path finds: nothing, or a node and an earlier one that contradict one another.
 pub enum Contradiction {
@@ -31,73 +40,6 @@ pub enum Contradiction {
         later: ProofTreeNodeID,
         earlier: ProofTreeNodeID,
     },
-}
-
-// The path of a leaf, from the leaf up to the root.
-pub fn path_of(tree: &[u16; 4608], len: usize, leaf: ProofTreeNodeID, out: &mut [u16; 512]) -> usize
-    ensures { λ r. ⌜ ((ns : List Node) → length ns ≡ len → len ≤ 512 → now (tree .entry) ≡ lay ns → Listed [] 0 (now (out .entry)) → Listed (path ns (leaf .0)) r (now (out .exit))) ⌝ }
-{
-    let mut cur = leaf;
-    let mut n: usize = 0;
-    let mut k: usize = 0;
-    while k < len {
-        if cur.is_none() {
-            return n;
-        }
-        n = push(out, n, cur.0);
-        cur = parent_of(tree, cur);
-        k += 1;
-    }
-    n
-}
-
-// One world, and formulas that contradict one another.
-pub fn are_nodes_contradictory(
-    formulas: &[u16; 5120],
-    count: usize,
-    tree: &[u16; 4608],
-    x: ProofTreeNodeID,
-    y: ProofTreeNodeID,
-) -> bool
-    ensures { λ r. ⌜ ((rs : List Rec) (ns : List Node) → Recorded rs count (now (formulas .entry)) → count ≤ 1280 → length ns ≤ 512 → now (tree .entry) ≡ lay ns
-        → r ≡ areNodesContradictory rs ns (x .0) (y .0)) ⌝ }
-{
-    if world_of(tree, x).is(world_of(tree, y)) {
-        return are_formulas_contradictory(
-            formulas,
-            count,
-            formula_of(tree, x),
-            formula_of(tree, y),
-        );
-    }
-    false
-}
-
-// The first node from the root that contradicts x, of the entries of a path from `from` on. The path is given from its leaf.
-fn find_earlier(
-    formulas: &[u16; 5120],
-    count: usize,
-    tree: &[u16; 4608],
-    x: ProofTreeNodeID,
-    path: &[u16; 512],
-    n: usize,
-    from: usize,
-) -> Contradiction
-    ensures { λ r. ⌜ ((rs : List Rec) (ns : List Node) (l : List ℕ) → Recorded rs count (now (formulas .entry)) → count ≤ 1280 → length ns ≤ 512 → now (tree .entry) ≡ lay ns
-        → Listed l n (now (path .entry)) → n ≤ 512 → found r ≡ Option·map (pair (x .0)) (find (areNodesContradictory rs ns (x .0)) (reverse (drop from l)))) ⌝ }
-{
-    let mut j = n;
-    while from < j {
-        j -= 1;
-        let y = ProofTreeNodeID(nth(path, j));
-        if are_nodes_contradictory(formulas, count, tree, x, y) {
-            return Contradiction::Between {
-                later: x,
-                earlier: y,
-            };
-        }
-    }
-    Contradiction::None
 }
 
 // Whether a pair was found.
@@ -113,43 +55,122 @@ pub fn is_pair(c: Contradiction) -> bool
     }
 }
 
-// From the path's last node upward, against each earlier node from the root.
-pub fn get_contradictory_node_ids(
+// x, of whose formula the claim is given, and y contradict one another: one world, and formulas that do.
+fn are_nodes_contradictory(
+    c: Claim,
+    world: PossibleWorld,
     formulas: &[u16; 5120],
     count: usize,
     tree: &[u16; 4608],
-    path: &[u16; 512],
-    n: usize,
-) -> Contradiction
-    ensures { λ r. ⌜ ((rs : List Rec) (ns : List Node) (l : List ℕ) → Recorded rs count (now (formulas .entry)) → count ≤ 1280 → length ns ≤ 512 → now (tree .entry) ≡ lay ns
-        → Listed l n (now (path .entry)) → n ≤ 512 → found r ≡ getContradictoryNodeIds rs ns l) ⌝ }
+    y: ProofTreeNodeID,
+) -> bool
+    ensures { λ r. ⌜ ((rs : List Rec) (ns : List Node) (x : ℕ) → Claims rs (formulaOf rs (nodeAt ns x .formula)) c → world .0 ≡ nodeAt ns x .world
+        → Recorded rs count (now (formulas .entry)) → count ≤ 1280 → length ns ≤ 512 → now (tree .entry) ≡ lay ns → r ≡ areNodesContradictory rs ns x (y .0)) ⌝ }
 {
-    let mut i: usize = 0;
-    while i < n {
-        let x = ProofTreeNodeID(nth(path, i));
-        i += 1;
-        let c = find_earlier(formulas, count, tree, x, path, n, i);
-        if is_pair(c) {
-            return c;
-        }
+    if world.is(world_of(tree, y)) {
+        return contradicts(c, formulas, count, formula_of(tree, y));
     }
-    Contradiction::None
+    false
 }
 
-// The pair of the path of a leaf.
-pub fn contradiction_of(
+// The node met now, if it is a hit; else the last one.
+fn latest(hit: bool, y: ProofTreeNodeID, last: ProofTreeNodeID) -> ProofTreeNodeID
+    ensures { λ r. ⌜ r .0 ≡ cond hit (y .0) (last .0) ⌝ }
+{
+    if hit {
+        return y;
+    }
+    last
+}
+
+// x with the node found, if there is one.
+fn pair_with(x: ProofTreeNodeID, y: ProofTreeNodeID) -> Contradiction
+    ensures { λ r. ⌜ found r ≡ Option·map (pair (x .0)) (known (y .0)) ⌝ }
+{
+    if y.is_none() {
+        return Contradiction::None;
+    }
+    Contradiction::Between {
+        later: x,
+        earlier: y,
+    }
+}
+
+// Of the nodes above x, the first from the root that contradicts it: the last that is met on the way up.
+fn find_above(
+    c: Claim,
     formulas: &[u16; 5120],
     count: usize,
     tree: &[u16; 4608],
     len: usize,
+    x: ProofTreeNodeID,
+) -> Contradiction
+    ensures { λ r. ⌜ ((rs : List Rec) (ns : List Node) → Claims rs (formulaOf rs (nodeAt ns (x .0) .formula)) c → Recorded rs count (now (formulas .entry)) → count ≤ 1280 → length ns ≡ len → len ≤ 512 → now (tree .entry) ≡ lay ns
+        → found r ≡ Option·map (pair (x .0)) (partner rs ns (x .0))) ⌝ }
+{
+    let world = world_of(tree, x);
+    let mut last = ProofTreeNodeID::NONE;
+    let mut cur = parent_of(tree, x);
+    let mut k: usize = 1;
+    while k < len {
+        if cur.is_none() {
+            return pair_with(x, last);
+        }
+        let hit = are_nodes_contradictory(c, world, formulas, count, tree, cur);
+        last = latest(hit, cur, last);
+        cur = parent_of(tree, cur);
+        k += 1;
+    }
+    pair_with(x, last)
+}
+
+// x and the first node from the root that contradicts it. A formula that says and denies nothing needs no search.
+fn find_earlier(
+    formulas: &[u16; 5120],
+    count: usize,
+    tree: &[u16; 4608],
+    len: usize,
+    x: ProofTreeNodeID,
+) -> Contradiction
+    ensures { λ r. ⌜ ((rs : List Rec) (ns : List Node) → Recorded rs count (now (formulas .entry)) → count ≤ 1280 → length ns ≡ len → len ≤ 512 → now (tree .entry) ≡ lay ns
+        → found r ≡ Option·map (pair (x .0)) (partner rs ns (x .0))) ⌝ }
+{
+    let c = claim_of(formulas, count, formula_of(tree, x));
+    if is_no_literal(c) {
+        return Contradiction::None;
+    }
+    find_above(c, formulas, count, tree, len, x)
+}
+
+// The pair of the path of a new leaf: from the leaf upward, as long as the nodes are new.
+pub fn get_contradictory_node_ids(
+    formulas: &[u16; 5120],
+    count: usize,
+    tree: &[u16; 4608],
+    len: usize,
+    old: usize,
     leaf: ProofTreeNodeID,
 ) -> Contradiction
     ensures { λ r. ⌜ ((rs : List Rec) (ns : List Node) → Recorded rs count (now (formulas .entry)) → count ≤ 1280 → length ns ≡ len → len ≤ 512 → now (tree .entry) ≡ lay ns
-        → found r ≡ getContradictoryNodeIds rs ns (path ns (leaf .0))) ⌝ }
+        → Above rs ns old → In (spots ns) (leaf .0) → old ≤ leaf .0 → found r ≡ pairOf rs ns (leaf .0)) ⌝ }
 {
-    let mut path = [0u16; 512];
-    let n = path_of(tree, len, leaf, &mut path);
-    get_contradictory_node_ids(formulas, count, tree, &path, n)
+    let mut cur = leaf;
+    let mut k: usize = 0;
+    while k < len {
+        if cur.is_none() {
+            return Contradiction::None;
+        }
+        if (cur.0 as usize) < old {
+            return Contradiction::None;
+        }
+        let c = find_earlier(formulas, count, tree, len, cur);
+        if is_pair(c) {
+            return c;
+        }
+        cur = parent_of(tree, cur);
+        k += 1;
+    }
+    Contradiction::None
 }
 
 // The later node of a pair is marked against the earlier.
@@ -164,50 +185,90 @@ pub fn mark_pair(tree: &mut [u16; 4608], len: usize, c: Contradiction)
     }
 }
 
+// Marks the pair of the path of x, if x is a leaf; whether it is none or has a pair.
+fn mark_path(
+    formulas: &[u16; 5120],
+    count: usize,
+    tree: &mut [u16; 4608],
+    len: usize,
+    old: usize,
+    x: ProofTreeNodeID,
+) -> bool
+    ensures { λ r. ⌜ ((rs : List Rec) (ns : List Node) → Recorded rs count (now (formulas .entry)) → count ≤ 1280 → Held ns len (now (tree .entry)) → len ≤ 512 → Above rs ns old → old ≤ x .0
+        → Held (mark ns (pairAt rs ns (x .0))) len (now (tree .exit)) × (r ≡ closedAt rs ns (x .0))) ⌝ }
+{
+    if place_of(tree, x) == 65535 {
+        return true;
+    }
+    if is_leaf(tree, x) {
+        let c = get_contradictory_node_ids(formulas, count, tree, len, old, x);
+        mark_pair(tree, len, c);
+        return is_pair(c);
+    }
+    true
+}
+
 fn and(a: bool, b: bool) -> bool
     ensures { λ r. ⌜ r ≡ (a && b) ⌝ }
 {
     a && b
 }
 
-// Marks path by path, by the leaves given; whether each has a pair.
+// Marks path by path, by the new leaves; whether each has a pair.
 fn mark_paths(
     formulas: &[u16; 5120],
     count: usize,
     tree: &mut [u16; 4608],
     len: usize,
-    leaves: &[u16; 512],
-    n: usize,
+    old: usize,
 ) -> bool
-    ensures { λ r. ⌜ ((rs : List Rec) (ns : List Node) (l : List ℕ) → Recorded rs count (now (formulas .entry)) → count ≤ 1280 → Held ns len (now (tree .entry)) → len ≤ 512
-        → Listed l n (now (leaves .entry)) → n ≤ 512 → Held (markAll ns (pairs rs ns l)) len (now (tree .exit)) × (r ≡ all isPair (pairs rs ns l))) ⌝ }
+    ensures { λ r. ⌜ ((rs : List Rec) (ns : List Node) → Recorded rs count (now (formulas .entry)) → count ≤ 1280 → Held ns len (now (tree .entry)) → len ≤ 512 → Above rs ns old
+        → Held (markAll ns (newPairs rs ns old (len - old))) len (now (tree .exit)) × (r ≡ all (closedAt rs ns) (upFrom (len - old) old))) ⌝ }
 {
-    let mut proved = true;
-    let mut k: usize = 0;
-    while k < n {
-        let leaf = ProofTreeNodeID(nth(leaves, k));
-        let c = contradiction_of(formulas, count, tree, len, leaf);
-        mark_pair(tree, len, c);
-        proved = and(proved, is_pair(c));
+    let mut every = true;
+    let mut k = old;
+    while k < len {
+        if 512 <= k {
+            return every;
+        }
+        let x = ProofTreeNodeID(k as u16);
+        let closed = mark_path(formulas, count, tree, len, old, x);
+        every = and(every, closed);
         k += 1;
     }
-    proved
+    every
+}
+
+// No path is without a contradictory node.
+fn is_closed(tree: &[u16; 4608], len: usize) -> bool
+    ensures { λ r. ⌜ ((ns : List Node) → Treed ns → length ns ≡ len → len ≤ 512 → now (tree .entry) ≡ lay ns → r ≡ empty (filter (takes ns 0) (leaves ns))) ⌝ }
+{
+    let mut open = [0u16; 512];
+    let root = ProofTreeNodeID(0);
+    takers_below(tree, len, root, root, len, &mut open, 0) == 0
 }
 
 // Marks the pair of each path; whether every path has one. Nothing is marked where there are more than 512 nodes.
+// The tree was checked when it had `old` nodes; it was not proved then, so without a new node it is not now.
 pub fn check_for_contradictions(
     formulas: &[u16; 5120],
     count: usize,
     tree: &mut [u16; 4608],
     len: usize,
+    old: usize,
 ) -> bool
-    ensures { λ r. ⌜ ((rs : List Rec) (ns : List Node) → Recorded rs count (now (formulas .entry)) → count ≤ 1280 → Held ns len (now (tree .entry)) → (len ≤ 512 → length (leaves ns) ≤ 512)
+    ensures { λ r. ⌜ ((rs : List Rec) (ns : List Node) → Recorded rs count (now (formulas .entry)) → count ≤ 1280 → Held ns len (now (tree .entry)) → (len ≤ 512 → Since rs ns old)
         → Held (markAll ns (pairs rs ns (leaves ns))) len (now (tree .exit)) × (len ≤ 512 → r ≡ all isPair (pairs rs ns (leaves ns)))) ⌝ }
 {
     if 512 < len {
         return false;
     }
-    let mut leaves = [0u16; 512];
-    let n = leaves_below(tree, ProofTreeNodeID(0), len, &mut leaves, 0);
-    mark_paths(formulas, count, tree, len, &leaves, n)
+    let every = mark_paths(formulas, count, tree, len, old);
+    if len <= old {
+        return false;
+    }
+    if every {
+        return is_closed(tree, len);
+    }
+    false
 }

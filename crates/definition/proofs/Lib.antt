@@ -27,5 +27,6 @@ pub mod Ready
 pub mod Partners
 pub mod Takers
 pub mod Marked
+pub mod Fresh
 pub mod Calls
 pub mod Computed

@@ -47,7 +47,7 @@ module _ (t : List Node) (r : Treed t) where
       let a = r .above x i e .child in
       ⊎-elim (λ (q : isLeaf c ≡ true). absurd (ne (sym a ∙ bare-room (nodeAt t x .place) c q))) (λ (q : isLeaf c ≡ false). rw q (listed-at k l x c (nodeAt t x .place) ne a h)) (either (isLeaf c))
 
-  leaf-listed : (l : ℕ) → Bare (spots t) l → Some (λ z. z ≡ l) (leaves t)
+  pub leaf-listed : (l : ℕ) → Bare (spots t) l → Some (λ z. z ≡ l) (leaves t)
   unfolding leavesBelow only
   leaf-listed l b =
       let n = length t in
@@ -157,13 +157,13 @@ module _ (rs : List Rec) (t : List Node) (r : Treed t) (few : length t ≤ nobod
       go none e = refl
       go (some p) e = true-false e
 
-each-from : {A B : Type 0} (P : B → Type 0) (f : A → B) (xs : List A) → Each P (map f xs) → Each (λ x. P (f x)) xs
+pub each-from : {A B : Type 0} (P : B → Type 0) (f : A → B) (xs : List A) → Each P (map f xs) → Each (λ x. P (f x)) xs
 each-from P f [] h = tt
 each-from P f (x ∷ xs) h = (h .0, each-from P f xs (h .1))
 
 -- marks against partners: π names the partner of a node
 module _ (π : ℕ → Option ℕ) where
-  abbrev Exact : ℕ → Option Pair → Type 0
+  abbrev pub Exact : ℕ → Option Pair → Type 0
   Exact n none = Unit {0}
   Exact n (some p) = (p .later < n) × (π (p .later) ≡ some (p .earlier))
 
@@ -192,7 +192,7 @@ module _ (π : ℕ → Option ℕ) where
   done-more [] u q h b d = d
   done-more (o ∷ ps) u q h b d = done-more ps (mark u o) q (each-map (exact-mark u o) ps (h .1)) (exact-mark u o q b) (done-one u o q (h .0) b d)
 
-  done-all : (ps : List (Option Pair)) (u : List Node) → Each (Exact (length u)) ps → Each (Done (markAll u ps)) ps
+  pub done-all : (ps : List (Option Pair)) (u : List Node) → Each (Exact (length u)) ps → Each (Done (markAll u ps)) ps
   unfolding markAll
   done-all [] u h = tt
   done-all (o ∷ ps) u h =
@@ -233,14 +233,14 @@ module _ (π : ℕ → Option ℕ) where
 
 module _ (rs : List Rec) (t : List Node) (r : Treed t) where
   -- the pairs of the leaves are pairs of partners
-  pair-exact : (l : ℕ) → In (spots t) l → Exact (partner rs t) (length t) (pairOf rs t l)
+  pub pair-exact : (l : ℕ) → In (spots t) l → Exact (partner rs t) (length t) (pairOf rs t l)
   pair-exact l i = go (pairOf rs t l) refl
     where
       go : (o : Option Pair) → pairOf rs t l ≡ o → Exact (partner rs t) (length t) o
       go none e = tt
       go (some p) e = let k = pair-partner rs t r l i p e in (in-range t (p .later) (k .there), k .by)
 
-  leaves-exact : Each (λ l. Exact (partner rs t) (length t) (pairOf rs t l)) (leaves t)
+  pub leaves-exact : Each (λ l. Exact (partner rs t) (length t) (pairOf rs t l)) (leaves t)
   leaves-exact = each-map (λ l (b : Bare (spots t) l). pair-exact l (b .0)) (leaves t) (leaves-bare t r)
 
   -- marking the pairs of the leaves makes the tree so
@@ -310,7 +310,7 @@ module _ (F : Flags) (k : ℕ) (s : State) (p : Popped) (h : Fit F k s) (e : sto
       let d = sym (append-nil rs) in
       (between-keeps F s (p .node) (p .others) rs [] d .treed r few, between-hung F s (p .node) (p .others) rs [] d r few)
 
-  old-in : (x : ℕ) → In (spots u) x → x < length t → In (spots t) x
+  pub old-in : (x : ℕ) → In (spots u) x → x < length t → In (spots t) x
   old-in x i l = sym (ap (λ (n : Stem). placed (n .place)) (g .stems x l)) ∙ i
 
   pub appended-right : RightMarks (s .formulas) t → RightMarks (appended F s p .formulas) u

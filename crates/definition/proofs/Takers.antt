@@ -35,7 +35,7 @@ pub record OpenLeaf (t : List Node) (l : ℕ) : Type 0 where
   pub bare : Bare (spots t) l
   pub unmarked : closed t l ≡ false
 
-leaf-by : (c : Children) → ((p : Place) → childAt p c ≡ nobody) → isLeaf c ≡ true
+pub leaf-by : (c : Children) → ((p : Place) → childAt p c ≡ nobody) → isLeaf c ≡ true
 unfolding isLeaf childAt
 leaf-by c f = rw (f Left, f Middle, f Right)
 

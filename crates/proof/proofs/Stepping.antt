@@ -22,7 +22,8 @@ use Rattle.definition.specs.Run.{State, applyHere, applyPossibility, applyNeces
 use Rattle.definition.proofs.Lists.{true-false, or-left, or-right}
 use Rattle.definition.proofs.Count.{Counted, checked-both, pop-some}
 use Rattle.definition.proofs.Priest.{made-two}
-use Rattle.definition.proofs.Ready.{Fit, Ready, ready, appended-leaves}
+use Rattle.definition.proofs.Ready.{Fit, Ready, ready}
+use Rattle.definition.proofs.Fresh.{Since, Watch, since-step}
 use Rattle.formula.specs.Recorded.{Recorded}
 use Rattle.formula.proofs.Recorded.{recorded-fits}
 use Rattle.graph.specs.Drawn.{Drawn}
@@ -208,23 +209,24 @@ module _ (F : Flags) (s : State) (x : ℕ) (q : List ℕ) where
   unfolding step stepBy
   step-is e = sym (ap (stepBy F s) e)
 
-  pub stepped : (k : ℕ) → Fit F k s → stops s ≡ false → D.pop (s .formulas) (s .nodes) (s .waiting) ≡ some taken →
+  pub stepped : (k : ℕ) → Fit F k s → Watch F s → stops s ≡ false → D.pop (s .formulas) (s .nodes) (s .waiting) ≡ some taken →
       {p : Progress} {fa ta ea ra la va oa wa : List ℕ} → Laid s p fa ta ea ra la va oa wa →
       {e : Expanded} {fb : List ℕ} → Expands (s .formulas) (expansion (s .formulas) f) e fb →
       {a : Sizes} {tb eb rb lb vb ob wb : List ℕ} → After a tb eb rb lb vb ob wb (applyRule F s x recs (consequenceOf (e .rule))) (placing s q (applyRule F s x recs (consequenceOf (e .rule)))) →
       {m : ℕ} → (p .steps < 512 → m ≡ suc (p .steps)) →
       {proved : Bool} {tc : List ℕ} →
-      ((z : State) → p .proved ≡ z .proved → Recorded (z .formulas) (e .formulas) fb → e .formulas ≤ 1280 → Held (z .nodes) (a .nodes) tb → (a .nodes ≤ 512 → length (leaves (z .nodes)) ≤ 512) →
+      ((z : State) → p .proved ≡ z .proved → Recorded (z .formulas) (e .formulas) fb → e .formulas ≤ 1280 → Held (z .nodes) (a .nodes) tb → (F .skip ≡ false → a .nodes ≤ 512 → Since (z .formulas) (z .nodes) (p .nodes)) →
       Held (checkForContradictions F z .nodes) (a .nodes) tc × (a .nodes ≤ 512 → proved ≡ checkForContradictions F z .proved)) →
       Kept (step F s) (record { formulas = e .formulas; nodes = a .nodes; worlds = a .worlds; necessities = a .necessities; waiting = a .waiting; steps = m; proved = proved }) fb tc eb rb lb vb ob wb
   unfolding Counted
-  stepped k fit st o {p} l {e} {fb} ex {a} {tb} {eb} {rb} {lb} {vb} {ob} {wb} af {m} count {proved} {tc} check =
+  stepped k fit watch st o {p} l {e} {fb} ex {a} {tb} {eb} {rb} {lb} {vb} {ob} {wb} af {m} count {proved} {tc} check =
       let r = ready F k s fit st in
       let small = formulas-fit (r .formulas) (ex .records) in
       let h = next-after small ex af in
       let rec = next-records (ex .records) in
       let nodes = next-nodes h in
-      let c = check next (l .proved ∙ sym next-proved) rec small nodes (λ fits. appended-leaves F s taken (r .treed) (omega (arith, held-ok nodes fits .0, fits))) in
+      let c = check next (l .proved ∙ sym next-proved) rec small nodes (λ e fits. subst (Since (next .formulas) (next .nodes)) (l .count)
+      (since-step F k s taken fit st (omega (arith, held-ok nodes fits .0, fits)) (watch e (omega (arith, r .nodes))))) in
       let low : p .steps < 512 = omega (arith, l .steps, fit .bounded .counted, r .nodes, waits) in
       subst (λ (z : State). Kept z (record { formulas = e .formulas; nodes = a .nodes; worlds = a .worlds; necessities = a .necessities; waiting = a .waiting; steps = m; proved = proved }) fb tc eb rb lb vb ob wb) (step-is o)
       (stepped-kept h rec (count low ∙ ap suc (l .steps)) (c .0) (c .1))

@@ -27,6 +27,7 @@ ghost use Rattle.definition.specs.Rules.{expansion};
 ghost use Rattle.definition.specs.Contradiction.{pairs, markAll, isPair};
 ghost use Rattle.definition.specs.Run.{State, applyHere, applyPossibility, applyNecessity, applyRule, checkForContradictions, step, stops, run};
 ghost use Rattle.definition.proofs.Ready.{Fit};
+ghost use Rattle.definition.proofs.Fresh.{Since, Watch};
 ghost use Rattle.formula.specs.Recorded.{Recorded};
 ghost use Rattle.graph.specs.Logic.{logicOf};
 ghost use Rattle.tree.specs.Lay.{Held};
@@ -154,7 +155,7 @@ fn next_step(steps: usize) -> usize
     steps + 1
 }
 
-// The contradictions of the tree after a rule, unless they are skipped; whether the run has proved.
+// The contradictions of the tree after a rule, unless they are skipped; whether the run has proved. They were checked when the tree had `old` nodes.
 fn check(
     skip: bool,
     proved: bool,
@@ -162,14 +163,15 @@ fn check(
     count: usize,
     tree: &mut [u16; 4608],
     len: usize,
+    old: usize,
 ) -> bool
-    ensures { λ r. ⌜ ((F : Flags) (s : State) → skip ≡ F .skip → proved ≡ s .proved → Recorded (s .formulas) count (now (formulas .entry)) → count ≤ 1280 → Held (s .nodes) len (now (tree .entry)) → (len ≤ 512 → length (leaves (s .nodes)) ≤ 512)
+    ensures { λ r. ⌜ ((F : Flags) (s : State) → skip ≡ F .skip → proved ≡ s .proved → Recorded (s .formulas) count (now (formulas .entry)) → count ≤ 1280 → Held (s .nodes) len (now (tree .entry)) → (F .skip ≡ false → len ≤ 512 → Since (s .formulas) (s .nodes) old)
         → Held (checkForContradictions F s .nodes) len (now (tree .exit)) × (len ≤ 512 → r ≡ checkForContradictions F s .proved)) ⌝ }
 {
     if skip {
         return proved;
     }
-    let every = check_for_contradictions(formulas, count, tree, len);
+    let every = check_for_contradictions(formulas, count, tree, len, old);
     if proved {
         return true;
     }
@@ -178,11 +180,11 @@ fn check(
 
 // The state before any step: contradictions are checked once, unless they are skipped.
 pub fn begin(skip: bool, p: Progress, formulas: &[u16; 5120], tree: &mut [u16; 4608]) -> Progress
-    ensures { λ r. ⌜ ((F : Flags) (s : State) (ea ra la va oa wa : List ℕ) → skip ≡ F .skip → p .formulas ≤ 1280 → length (leaves (s .nodes)) ≤ 512
+    ensures { λ r. ⌜ ((F : Flags) (s : State) (ea ra la va oa wa : List ℕ) → skip ≡ F .skip → p .formulas ≤ 1280 → Since (s .formulas) (s .nodes) 0
         → Laid s p (now (formulas .entry)) (now (tree .entry)) ea ra la va oa wa
         → Kept (checkForContradictions F s) r (now (formulas .entry)) (now (tree .exit)) ea ra la va oa wa) ⌝ }
 {
-    let proved = check(skip, p.proved, formulas, p.formulas, tree, p.nodes);
+    let proved = check(skip, p.proved, formulas, p.formulas, tree, p.nodes, 0);
     Progress {
         formulas: p.formulas,
         nodes: p.nodes,
@@ -208,7 +210,7 @@ pub fn step(
     order: &mut [u16; 512],
     wait: &mut [u16; 512],
 ) -> Progress
-    ensures { λ r. ⌜ ((F : Flags) (k : ℕ) (s : State) → Flagged F logic skip → Fit F k s → stops s ≡ false
+    ensures { λ r. ⌜ ((F : Flags) (k : ℕ) (s : State) → Flagged F logic skip → Fit F k s → Watch F s → stops s ≡ false
         → Kept s p (now (formulas .entry)) (now (tree .entry)) (now (edges .entry)) (now (rows .entry)) (now (leaves .entry)) (now (visited .entry)) (now (order .entry)) (now (wait .entry))
         → Kept (step F s) r (now (formulas .exit)) (now (tree .exit)) (now (edges .exit)) (now (rows .exit)) (now (leaves .exit)) (now (visited .exit)) (now (order .exit)) (now (wait .exit))) ⌝ }
 {
@@ -243,7 +245,7 @@ pub fn step(
                 necessities: a.necessities,
                 waiting: a.waiting,
                 steps: next_step(p.steps),
-                proved: check(skip, p.proved, formulas, e.formulas, tree, a.nodes),
+                proved: check(skip, p.proved, formulas, e.formulas, tree, a.nodes, p.nodes),
             }
         }
     }
@@ -263,7 +265,7 @@ pub fn prove(
     order: &mut [u16; 512],
     wait: &mut [u16; 512],
 ) -> Progress
-    ensures { λ r. ⌜ ((F : Flags) (k : ℕ) (s : State) → Flagged F logic skip → Fit F k s
+    ensures { λ r. ⌜ ((F : Flags) (k : ℕ) (s : State) → Flagged F logic skip → Fit F k s → Watch F s
         → Kept s begun (now (formulas .entry)) (now (tree .entry)) (now (edges .entry)) (now (rows .entry)) (now (leaves .entry)) (now (visited .entry)) (now (order .entry)) (now (wait .entry))
         → Kept (run 513 F s) r (now (formulas .exit)) (now (tree .exit)) (now (edges .exit)) (now (rows .exit)) (now (leaves .exit)) (now (visited .exit)) (now (order .exit)) (now (wait .exit))) ⌝ }
 {

@@ -10,11 +10,11 @@ use Rattle.definition.specs.Lists.{empty, below}
 use Rattle.definition.specs.Records.{Rec, decode, marks}
 use Rattle.definition.specs.Flags.{Flags}
 use Rattle.definition.specs.Graph.{emptyGraph}
-use Rattle.definition.specs.Tree.{leaves}
 use Rattle.definition.specs.Run.{rooted, branchNodes, begun, start, checkForContradictions}
 use Rattle.definition.proofs.Accepted.{length-decode}
 use Rattle.definition.proofs.Count.{length-rooted}
-use Rattle.definition.proofs.Treed.{leaves-few}
+use Rattle.definition.proofs.Fields.{begun-unmarked}
+use Rattle.definition.proofs.Fresh.{Since, since-all}
 use Rattle.definition.proofs.Growing.{begun-treed}
 use Rattle.formula.specs.Recorded.{Recorded}
 use Rattle.formula.proofs.Recorded.{recorded-fits}
@@ -41,9 +41,9 @@ module _ (rs : List Rec) where
     begun-few : length (rooted (branchNodes rs)) ≤ 64
     begun-few = omega (arith, length-rooted (branchNodes rs), length-branch, few)
 
-    begun-leaves : length (leaves (begun rs .nodes)) ≤ 512
+    begun-since : Since (begun rs .formulas) (begun rs .nodes) 0
     unfolding begun
-    begun-leaves = omega (arith, begun-few, leaves-few (begun rs .nodes) (begun-treed rs some (omega (arith, begun-few))))
+    begun-since = since-all rs (begun rs .nodes) (begun-treed rs some (omega (arith, begun-few))) (begun-unmarked rs)
 
     begun-laid : {count len waiting : ℕ} {fa ta ea ra la va oa wa : List ℕ} → Recorded rs count fa → Held (rooted (branchNodes rs)) len ta → Listed (reverse (below (length (branchNodes rs)))) waiting wa →
         Drawn emptyGraph 0 ea → Stack [] 0 oa ra la va →
@@ -57,7 +57,7 @@ module _ (rs : List Rec) where
     pub started : (F : Flags) {count len waiting : ℕ} {p : Progress} {fa ta tb ea ra la va oa wa : List ℕ} → length rs ≤ 256 → Drawn emptyGraph 0 ea → Stack [] 0 oa ra la va → Recorded rs count fa →
         (count ≤ 1280 → Held (rooted (branchNodes rs)) len ta) →
         (length (branchNodes rs) ≡ len → len ≤ 512 → ta ≡ lay (rooted (branchNodes rs)) → Listed (reverse (below (length (branchNodes rs)))) waiting wa) →
-        (count ≤ 1280 → length (leaves (begun rs .nodes)) ≤ 512 →
+        (count ≤ 1280 → Since (begun rs .formulas) (begun rs .nodes) 0 →
         Laid (begun rs) (record { formulas = count; nodes = len; worlds = 0; necessities = 0; waiting = waiting; steps = 0; proved = false }) fa ta ea ra la va oa wa →
         Kept (checkForContradictions F (begun rs)) p fa tb ea ra la va oa wa) →
         Kept (start F rs) p fa tb ea ra la va oa wa
@@ -67,4 +67,4 @@ module _ (rs : List Rec) where
         let h = tree fits in
         let low = held-fits h (omega (arith, begun-few)) in
         let k = held-ok h low in
-        check fits begun-leaves (begun-laid r h (queue (sym (length-rooted (branchNodes rs)) ∙ k .0) low (k .1)) g n)
+        check fits begun-since (begun-laid r h (queue (sym (length-rooted (branchNodes rs)) ∙ k .0) low (k .1)) g n)

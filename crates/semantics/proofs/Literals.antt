@@ -1,10 +1,12 @@
 -- What a record says and denies, by its kind's number and its fields' as they are read.
 use Prim.Native.Nat.{ℕ, _≤_}
-use mathlib.Core.Path.{_≡_, refl}
+use mathlib.Core.Path.{_≡_, refl, sym, _∙_, subst}
 use mathlib.Core.Bool.{Bool, true, false, _&&_}
 use mathlib.Core.List.{List, [], _∷_}
 use lib.Dec.{eqb}
 use borrow.Author.Tests.{eq-eqb, ne-eqb}
+use Rattle.definition.specs.Lists.{empty}
+use Rattle.definition.proofs.Lists.{true-false}
 use Rattle.definition.specs.Records.{Rec, numberOf, recAt, formulaOf}
 use Rattle.definition.specs.Contradiction.{both, atomOf, atomsOf, said, denied, opposed, areFormulasContradictory}
 use Rattle.formula.specs.Recorded.{Recorded}
@@ -108,6 +110,16 @@ module _ (a x : ℕ) where
   pub pair-differs : (b y : ℕ) → (a ≡ x → ⊥) → eqb a x ≡ opposed (a ∷ b ∷ []) (x ∷ y ∷ [])
   unfolding opposed
   pair-differs b y h = rw (ne-eqb a x h) refl
+
+pub none-opposed : (xs : List ℕ) → false ≡ opposed xs []
+unfolding opposed
+none-opposed [] = refl
+none-opposed (x ∷ xs) = refl
+
+-- what is read as nothing is opposed to nothing
+pub nothing-opposed : (us : List ℕ) {vs ws : List ℕ} {b : Bool} → b ≡ empty vs → b ≡ true → vs ≡ ws → false ≡ opposed us ws
+nothing-opposed us {vs = []} e h q = subst (λ (l : List ℕ). false ≡ opposed us l) q (none-opposed us)
+nothing-opposed us {vs = v ∷ vs} e h q = true-false (sym h ∙ e)
 
 module _ (rs : List Rec) (p q : Rec) (xs ys : List ℕ) (ex : xs ≡ said rs p) (ey : ys ≡ denied rs q) where
   pub first-opposed : (b : Bool) → b ≡ opposed xs ys → b ≡ true → true ≡ areFormulasContradictory rs p q

@@ -5,15 +5,17 @@ use formula::kind_at;
 use formula::left_at;
 use formula::right_at;
 ghost use mathlib.Core.Path.{_≡_};
+ghost use mathlib.Core.Bool.{_&&_};
 ghost use mathlib.Core.List.{List};
 ghost use Prim.Native.Nat.{ℕ, _≤_};
+ghost use Rattle.definition.specs.Lists.{empty};
 ghost use Rattle.definition.specs.Records.{Rec, recAt, formulaOf};
 ghost use Rattle.definition.specs.Contradiction.{atomOf, atomsOf, said, denied, opposed, areFormulasContradictory};
 ghost use Rattle.formula.specs.Recorded.{Recorded};
-ghost use Rattle.semantics.specs.Literal.{atomsIn};
+ghost use Rattle.semantics.specs.Literal.{atomsIn, Claims};
 
 // What a formula says or denies: no atom, one, or the agreement of two in this order.
-enum Literal {
+pub enum Literal {
     Nothing,
     Atom(u16),
     Pair(u16, u16),
@@ -93,6 +95,55 @@ fn opposed(p: Literal, q: Literal) -> bool
     }
 }
 
+fn is_nothing(p: Literal) -> bool
+    ensures { λ r. ⌜ r ≡ empty (atomsIn p) ⌝ }
+{
+    match p {
+        Literal::Nothing => true,
+        Literal::Atom(_) => false,
+        Literal::Pair(_, _) => false,
+    }
+}
+
+// What a formula says and denies, so that many can be held against it.
+pub struct Claim {
+    pub says: Literal,
+    pub denies: Literal,
+}
+
+pub fn claim_of(formulas: &[u16; 5120], count: usize, f: FormulaNumber) -> Claim
+    ensures { λ r. ⌜ ((rs : List Rec) → Recorded rs count (now (formulas .entry)) → count ≤ 1280 → Claims rs (formulaOf rs (f .0)) r) ⌝ }
+{
+    Claim {
+        says: said(formulas, count, f),
+        denies: denied(formulas, count, f),
+    }
+}
+
+// It says nothing and denies nothing, so that no formula contradicts it.
+pub fn is_no_literal(c: Claim) -> bool
+    ensures { λ r. ⌜ r ≡ (empty (atomsIn (c .says)) && empty (atomsIn (c .denies))) ⌝ }
+{
+    let says = c.says;
+    let denies = c.denies;
+    is_nothing(says) && is_nothing(denies)
+}
+
+// The formula of a claim and g contradict one another.
+pub fn contradicts(c: Claim, formulas: &[u16; 5120], count: usize, g: FormulaNumber) -> bool
+    ensures { λ r. ⌜ ((rs : List Rec) (p : Rec) → Claims rs p c → Recorded rs count (now (formulas .entry)) → count ≤ 1280 → r ≡ areFormulasContradictory rs p (formulaOf rs (g .0))) ⌝ }
+{
+    let says = c.says;
+    let denies = c.denies;
+    if opposed(says, denied(formulas, count, g)) {
+        return true;
+    }
+    if is_nothing(denies) {
+        return false;
+    }
+    opposed(said(formulas, count, g), denies)
+}
+
 pub fn are_formulas_contradictory(
     formulas: &[u16; 5120],
     count: usize,
@@ -101,8 +152,6 @@ pub fn are_formulas_contradictory(
 ) -> bool
     ensures { λ r. ⌜ ((rs : List Rec) → Recorded rs count (now (formulas .entry)) → count ≤ 1280 → r ≡ areFormulasContradictory rs (formulaOf rs (f .0)) (formulaOf rs (g .0))) ⌝ }
 {
-    if opposed(said(formulas, count, f), denied(formulas, count, g)) {
-        return true;
-    }
-    opposed(said(formulas, count, g), denied(formulas, count, f))
+    let c = claim_of(formulas, count, f);
+    contradicts(c, formulas, count, g)
 }

@@ -1,34 +1,41 @@
 use borrow.Author.Needs.{needs}
-use Prim.Native.Nat.{ℕ, _≤_, _-_}
-use mathlib.Core.Path.{_≡_, refl, sym, _∙_}
+use Prim.Native.Nat.{_≤_, _-_}
+use mathlib.Core.Path.{_≡_, _∙_}
 use mathlib.Core.List.{List}
 use native.Mathlib.Omega.{arith}
-use lib.ListN.{length, drop}
-use Rattle.arrays.specs.Listed.{Listed}
-use Rattle.arrays.proofs.Listed.{listed-count}
+use lib.ListN.{length}
 use Rattle.definition.specs.Records.{Rec}
 use Rattle.definition.specs.Tree.{Node}
-use Rattle.definition.specs.Contradiction.{getContradictoryNodeIds}
+use Rattle.definition.proofs.Treed.{spots, In}
+use Rattle.definition.proofs.Fresh.{Above}
 use Rattle.formula.specs.Recorded.{Recorded}
 use Rattle.tree.specs.Lay.{lay}
-use Rattle.contradictions.proofs.Search.{ids-end, ids-hit, ids-miss}
+use Rattle.contradictions.proofs.Search.{Searching, searching-start, searching-none, searching-old, searching-hit, searching-next, searching-end}
 use Rattle.contradictions.proofs.get_contradictory_node_ids.Statement.{statement}
 use Rattle.contradictions.proofs.get_contradictory_node_ids.Tie as tie
 
 abbrev Inv-loop : tie.InvT-loop
-Inv-loop formulas count tree path n i₀ i = (i ≤ n) × ((rs : List Rec) (ns : List Node) (l : List ℕ) → Recorded rs count formulas → count ≤ 1280 → length ns ≤ 512 → tree ≡ lay ns → Listed l n path → n ≤ 512 → getContradictoryNodeIds rs ns (drop i l) ≡ getContradictoryNodeIds rs ns l)
+Inv-loop formulas count tree len old cur₀ k₀ cur k =
+    (rs : List Rec) (ns : List Node) → Recorded rs count formulas → count ≤ 1280 → length ns ≡ len → len ≤ 512 → tree ≡ lay ns → Above rs ns old → In (spots ns) (cur₀ .0) → old ≤ cur₀ .0 →
+    Searching rs ns old (cur₀ .0) (cur .0) len k
 
 abbrev μ-loop : tie.MeasureT-loop
-μ-loop formulas count tree path n i₀ i = n - i
+μ-loop formulas count tree len old cur₀ k₀ cur k = len - k
 
 loop-holds : tie.Need-loop-holds Inv-loop μ-loop
-loop-holds c = (search needs, λ rs ns l p b h q s m. refl)
+loop-holds c = λ rs ns p b e h q a i l. searching-start rs ns _ _ _ e a i l
 
-nth-requires : tie.Need-nth-requires Inv-loop μ-loop
-nth-requires c κs = search needs
+is-none-requires : tie.Need-is-none-requires Inv-loop μ-loop
+is-none-requires c κs = search needs
 
-add-i : tie.Need-add-i Inv-loop μ-loop
-add-i c = search needs
+returns : tie.Need-returns Inv-loop μ-loop
+returns c = λ rs ns p b e h q a i l. searching-none (c .before .before .before .loop .inv rs ns p b e h q a i l) (c .before .is-none .ensures) (c .if1 .taken)
+
+cast-if2 : tie.Need-cast-if2 Inv-loop μ-loop
+cast-if2 c = search needs
+
+returns-2 : tie.Need-returns-2 Inv-loop μ-loop
+returns-2 c = λ rs ns p b e h q a i l. searching-old (c .before .before .before .before .before .loop .inv rs ns p b e h q a i l) (omega (arith, c .if2 .taken))
 
 find-earlier-requires : tie.Need-find-earlier-requires Inv-loop μ-loop
 find-earlier-requires c κs = search needs
@@ -36,26 +43,27 @@ find-earlier-requires c κs = search needs
 is-pair-requires : tie.Need-is-pair-requires Inv-loop μ-loop
 is-pair-requires c κs = search needs
 
-returns : tie.Need-returns Inv-loop μ-loop
-returns c = λ rs ns l p b h q s m.
-    sym (ids-hit rs ns l _ _ _ (omega (arith, listed-count s m, c .before .before .before .before .loop-test .taken)) (c .before .before .before .nth .ensures l _ s m (c .before .before .before .before .loop-test .taken))
-    (c .before .before .find-earlier .ensures rs ns l p b h q s m) (c .before .is-pair .ensures) (c .if1 .taken))
-    ∙ c .before .before .before .before .before .loop .inv .1 rs ns l p b h q s m
+returns-3 : tie.Need-returns-3 Inv-loop μ-loop
+returns-3 c = λ rs ns p b e h q a i l.
+    searching-hit (c .before .before .before .before .before .before .before .before .loop .inv rs ns p b e h q a i l) (c .before .before .before .before .before .before .is-none .ensures) (c .before .before .before .before .before .if1 .left) _ (c .before .before .find-earlier .ensures rs ns p b e h q) (c .before .is-pair .ensures) (c .if3 .taken)
+
+parent-of-requires : tie.Need-parent-of-requires Inv-loop μ-loop
+parent-of-requires c κs = search needs
+
+add-k : tie.Need-add-k Inv-loop μ-loop
+add-k c = search needs
 
 loop-less : tie.Need-loop-less Inv-loop μ-loop
 loop-less c = search needs
 
 loop-again : tie.Need-loop-again Inv-loop μ-loop
-loop-again c = (
-  search needs,
-  λ rs ns l p b h q s m.
-      sym (ids-miss rs ns l _ _ _ (omega (arith, listed-count s m, c .before .before .before .before .loop-test .taken)) (c .before .before .before .nth .ensures l _ s m (c .before .before .before .before .loop-test .taken))
-      (c .before .before .find-earlier .ensures rs ns l p b h q s m) (c .before .is-pair .ensures) (c .if1 .left))
-      ∙ c .before .before .before .before .before .loop .inv .1 rs ns l p b h q s m,
-)
+loop-again c = λ rs ns p b e h q a i l.
+    searching-next (c .before .before .before .before .before .before .before .before .before .loop .inv rs ns p b e h q a i l) (c .before .before .before .before .before .before .before .is-none .ensures) (c .before .before .before .before .before .before .if1 .left) _ (c .before .before .before .find-earlier .ensures rs ns p b e h q) (c .before .before .is-pair .ensures) _ (c .before .if3 .left)
+    (omega (arith, c .before .before .before .before .if2 .left)) (c .parent-of .ensures ns (omega arith) q)
 
-returns-2 : tie.Need-returns-2 Inv-loop μ-loop
-returns-2 c = λ rs ns l p b h q s m. sym (ids-end rs ns l (c .before .loop .i) (omega (arith, listed-count s m, c .loop-test .left))) ∙ c .before .loop .inv .1 rs ns l p b h q s m
+returns-4 : tie.Need-returns-4 Inv-loop μ-loop
+returns-4 c = λ rs ns p b e h q a i l. searching-end (c .before .loop .inv rs ns p b e h q a i l) (omega (arith, c .loop-test .left))
 
 pub get-contradictory-node-ids-spec : {M : Type 1} → statement M
-get-contradictory-node-ids-spec = tie.close (tie.spec Inv-loop μ-loop loop-holds nth-requires add-i find-earlier-requires is-pair-requires returns loop-less loop-again returns-2)
+get-contradictory-node-ids-spec =
+    tie.close (tie.spec Inv-loop μ-loop loop-holds is-none-requires returns cast-if2 returns-2 find-earlier-requires is-pair-requires returns-3 parent-of-requires add-k loop-less loop-again returns-4)

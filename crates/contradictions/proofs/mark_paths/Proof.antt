@@ -1,11 +1,10 @@
 use borrow.Author.Needs.{needs}
-use Prim.Native.Nat.{ℕ, _≤_, _-_}
+use Prim.Native.Nat.{_≤_, _-_}
 use mathlib.Core.List.{List}
 use native.Mathlib.Omega.{arith}
-use Rattle.arrays.specs.Listed.{Listed}
-use Rattle.arrays.proofs.Listed.{listed-count}
 use Rattle.definition.specs.Records.{Rec}
 use Rattle.definition.specs.Tree.{Node}
+use Rattle.definition.proofs.Fresh.{Above}
 use Rattle.formula.specs.Recorded.{Recorded}
 use Rattle.tree.specs.Lay.{Held}
 use Rattle.contradictions.proofs.Marks.{Marking, marking-start, marking-next, marking-end}
@@ -13,25 +12,23 @@ use Rattle.contradictions.proofs.mark_paths.Statement.{statement}
 use Rattle.contradictions.proofs.mark_paths.Tie as tie
 
 abbrev Inv-loop : tie.InvT-loop
-Inv-loop formulas count tree₀ len leaves n proved₀ k₀ tree proved k = (k ≤ n) × ((rs : List Rec) (ns : List Node) (l : List ℕ) → Recorded rs count formulas → count ≤ 1280 → Held ns len tree₀ → len ≤ 512 → Listed l n leaves → n ≤ 512 → Marking rs ns l len tree proved k)
+Inv-loop formulas count tree₀ len old every₀ k₀ tree every k =
+    (old ≤ k) × (k - old ≤ len - old) × ((rs : List Rec) (ns : List Node) → Recorded rs count formulas → count ≤ 1280 → Held ns len tree₀ → len ≤ 512 → Above rs ns old → Marking rs ns old len tree every k)
 
 abbrev μ-loop : tie.MeasureT-loop
-μ-loop formulas count tree₀ len leaves n proved₀ k₀ tree proved k = n - k
+μ-loop formulas count tree₀ len old every₀ k₀ tree every k = len - k
 
 loop-holds : tie.Need-loop-holds Inv-loop μ-loop
-loop-holds c = (search needs, λ rs ns l p b a h s m. marking-start rs l a)
+loop-holds c = (omega arith, omega arith, λ rs ns p b a h o. marking-start rs a)
 
-nth-requires : tie.Need-nth-requires Inv-loop μ-loop
-nth-requires c κs = search needs
+returns : tie.Need-returns Inv-loop μ-loop
+returns c = λ rs ns p b a h o. absurd (omega (arith, h, c .before .loop-test .taken, c .if1 .taken))
 
-contradiction-of-requires : tie.Need-contradiction-of-requires Inv-loop μ-loop
-contradiction-of-requires c κs = search needs
+cast-t11 : tie.Need-cast-t11 Inv-loop μ-loop
+cast-t11 c = search needs
 
-mark-pair-requires : tie.Need-mark-pair-requires Inv-loop μ-loop
-mark-pair-requires c κs = search needs
-
-is-pair-requires : tie.Need-is-pair-requires Inv-loop μ-loop
-is-pair-requires c κs = search needs
+mark-path-requires : tie.Need-mark-path-requires Inv-loop μ-loop
+mark-path-requires c κs = search needs
 
 and-requires : tie.Need-and-requires Inv-loop μ-loop
 and-requires c κs = search needs
@@ -44,15 +41,14 @@ loop-less c = search needs
 
 loop-again : tie.Need-loop-again Inv-loop μ-loop
 loop-again c = (
-  search needs,
-  λ rs ns l p b a h s m.
-      marking-next (c .before .before .before .before .before .before .before .before .loop .inv .1 rs ns l p b a h s m) _ _ (omega (arith, listed-count s m, c .before .before .before .before .before .before .before .loop-test .taken)) h
-      (c .before .before .before .before .before .before .nth .ensures l _ s m (c .before .before .before .before .before .before .before .loop-test .taken)) (λ ms. c .before .before .before .before .contradiction-of .ensures rs ms p b) (c .before .before .mark-pair .ensures)
-      (c .before .is-pair .ensures) (c .and .ensures),
+  omega (arith, c .before .before .before .before .before .loop .inv .0),
+  omega (arith, c .before .before .before .before .before .loop .inv .0, c .before .before .before .before .loop-test .taken),
+  λ rs ns p b a h o.
+      marking-next (c .before .before .before .before .before .loop .inv .2 rs ns p b a h o) o (c .before .before .before .before .before .loop .inv .0) (λ ms m z. c .before .mark-path .ensures rs ms p b m h z) (c .and .ensures),
 )
 
-returns : tie.Need-returns Inv-loop μ-loop
-returns c = λ rs ns l p b a h s m. marking-end (c .before .loop .inv .1 rs ns l p b a h s m) (omega (arith, listed-count s m, c .loop-test .left))
+returns-2 : tie.Need-returns-2 Inv-loop μ-loop
+returns-2 c = λ rs ns p b a h o. marking-end (c .before .loop .inv .2 rs ns p b a h o) (omega (arith, c .before .loop .inv .0, c .before .loop .inv .1, c .loop-test .left))
 
 pub mark-paths-spec : {M : Type 1} → statement M
-mark-paths-spec = tie.close (tie.spec Inv-loop μ-loop loop-holds nth-requires contradiction-of-requires mark-pair-requires is-pair-requires and-requires add-k loop-less loop-again returns)
+mark-paths-spec = tie.close (tie.spec Inv-loop μ-loop loop-holds returns cast-t11 mark-path-requires and-requires add-k loop-less loop-again returns-2)

@@ -22,7 +22,7 @@ returns c = λ F ea ra la va oa e small some few f t w g n.
     let rs = decode _ in
     let r = c .before .before .before .before .before .before .before .before .before .read-records .ensures small f in
     started rs some few F (few-records _ small) g n r (λ fits. c .before .before .before .before .before .before .begin-tree .ensures rs r fits t) (λ l low same. c .before .before .before .begin-queue .ensures rs l low same w)
-    (λ fits leaves laid. c .begin .ensures F (begun rs) ea ra la va oa _ e fits leaves laid)
+    (λ fits new laid. c .begin .ensures F (begun rs) ea ra la va oa _ e fits new laid)
 
 pub begin-spec : {M : Type 1} → statement M
 begin-spec =
