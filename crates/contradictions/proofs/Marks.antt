@@ -12,7 +12,7 @@ use lib.ListN.{length}
 use Rattle.arrays.specs.Listed.{Listed, listed, tooLong}
 use Rattle.definition.specs.Lists.{all, filter, empty, upFrom}
 use Rattle.definition.specs.Records.{Rec, nobody}
-use Rattle.definition.specs.Tree.{Node, Place, Root, Left, Middle, Right, Unplaced, nodeAt, isLeaf, leavesBelow, leaves}
+use Rattle.definition.specs.Tree.{Node, Place, Root, Left, Middle, Right, Unplaced, nodeAt, isLeaf, leaves}
 use Rattle.definition.specs.Subtree.{takes}
 use Rattle.definition.specs.Contradiction.{Pair, isPair, mark, markAll, pairs}
 use Rattle.definition.proofs.Lists.{true-false, either}
@@ -118,15 +118,11 @@ module _ {rs : List Rec} {t : List Node} {old len : ℕ} {a : List ℕ} {every :
 pub marked-full : {ns : List Node} {len : ℕ} {a : List ℕ} (ps : List (Option Pair)) → Held ns len a → 512 < len → Held (markAll ns ps) len a
 marked-full {ns} ps p h = held-long (markAll ns ps) p h (omega (arith, length-marks ps ns))
 
-empty-listed : (l : List ℕ) {n : ℕ} {a : List ℕ} → Listed l n a → eqb n 0 ≡ empty l
+pub empty-listed : (l : List ℕ) {n : ℕ} {a : List ℕ} → Listed l n a → eqb n 0 ≡ empty l
 empty-listed [] (listed b e q) = rw (← e) refl
 empty-listed (x ∷ l) {n = n} (listed b e q) = ne-eqb n 0 (λ z. omega (arith, e, z))
 empty-listed [] (tooLong b e) = absurd (omega arith)
 empty-listed (x ∷ l) {n = n} (tooLong b e) = ne-eqb n 0 (λ z. omega (arith, e, z))
-
-pub none-listed : (t : List Node) {len n : ℕ} {a : List ℕ} → length t ≡ len → Listed (filter (takes t 0) (leavesBelow len t 0)) n a → eqb n 0 ≡ empty (filter (takes t 0) (leaves t))
-unfolding leaves
-none-listed t e l = empty-listed _ l ∙ ap (λ (d : ℕ). empty (filter (takes t 0) (leavesBelow d t 0))) (sym e)
 
 module _ (rs : List Rec) (t : List Node) {old len : ℕ} {a z : List ℕ} {every : Bool} (s : Since rs t old) (h : Held t len a) (few : len ≤ 512)
     (m : Held (markAll t (newPairs rs t old (len - old))) len z × (every ≡ all (closedAt rs t) (upFrom (len - old) old))) where

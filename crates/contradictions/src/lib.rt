@@ -12,7 +12,7 @@ use tree::is_leaf;
 use tree::mark_child_node_as_contradictory;
 use tree::parent_of;
 use tree::place_of;
-use tree::takers_below;
+use tree::takers;
 use tree::world_of;
 ghost use mathlib.Core.Path.{_≡_};
 ghost use mathlib.Core.Bool.{_&&_, cond};
@@ -245,7 +245,7 @@ fn is_closed(tree: &[u16; 4608], len: usize) -> bool
 {
     let mut open = [0u16; 512];
     let root = ProofTreeNodeID(0);
-    takers_below(tree, len, root, root, len, &mut open, 0) == 0
+    takers(tree, len, root, &mut open) == 0
 }
 
 // Marks the pair of each path; whether every path has one. Nothing is marked where there are more than 512 nodes.

@@ -11,14 +11,15 @@ use Rattle.definition.specs.Lists.{Each, Distinct, filter, upFrom, empty
 use Rattle.definition.specs.Records.{Rec, marks, nobody}
 use Rattle.definition.specs.Flags.{Flags}
 use Rattle.definition.specs.Tree.{Place, Root, Middle, Node, childless, isLeaf, newNode, nodeAt, placedBelow, linkChain, leaves}
+use Rattle.definition.specs.Rules.{Rule}
 use Rattle.definition.specs.Contradiction.{Pair, markAll}
 use Rattle.definition.specs.Queue.{Popped, pop}
-use Rattle.definition.specs.Run.{State, apply, checkedForContradictions, checkForContradictions, appended, stepBy, step, steps, stops, run, rooted, branchNodes, begun, start}
+use Rattle.definition.specs.Run.{State, applyHere, applyRule, apply, checkedForContradictions, checkForContradictions, appended, stepBy, step, steps, stops, run, rooted, branchNodes, begun, start}
 use Rattle.definition.specs.Subtree.{Subtree, Targeted, withMiddle, flat, numbered, copied, appendSubtreeOnLeaf, pushSubtree, appendCopies, appendOn, takes, appendSubtree, appendLogicRuleResult}
 use Rattle.definition.proofs.Lists.{true-false, each-map, each-both, each-any, each-of-map, filter-keeps, upFrom-each, cond-both}
 use Rattle.definition.proofs.Nodes.{mark-keeps, length-marks, length-chain, length-leaf, node-append, ext-copies, ext-subtree, ext-result, blank}
-use Rattle.definition.proofs.Issued.{rising-distinct, Issued, distinct-filter, ids-numbered, issued-le, issued-front, apply-issued}
-use Rattle.definition.proofs.Made.{apply-each}
+use Rattle.definition.proofs.Issued.{rising-distinct, Issued, distinct-filter, ids-numbered, issued-le, issued-front, rule-issued, apply-issued}
+use Rattle.definition.proofs.Made.{here-each, rule-each, apply-each}
 use Rattle.definition.proofs.Treed.{Spot, spot, spots, nowhere, placed, childAt, In, Out, Child, Parent, Tree, Treed, Bare, in-range, in-out, leaves-bare, leaves-distinct, Unbounded, treed-unbounded}
 use Rattle.definition.proofs.Linking.{Free, leaf-other, bare-room, hang-treed}
 
@@ -156,6 +157,34 @@ result-keeps t ns q before after new h =
       treed = λ r few. result-treed before (t ++ ns) q (length t) (i .0) (subst Tree (sym (append-spots t ns new)) r) (i .1)
           (λ z l k. append-out t ns new z l) (omega (arith, i .2, length-append t ns)) few;
     }
+
+-- nodes that are not in the tree leave it a tree
+pub new-treed : (t ns : List Node) → Each New ns → Treed t → Treed (t ++ ns)
+new-treed t ns new r = subst Tree (sym (append-spots t ns new)) r
+
+-- each tree on which one of the subtrees is placed is a tree, if it fits
+abbrev pub Steady : List Node → List ℕ → List Targeted → Type 0
+Steady t q [] = Unit {0}
+Steady t q (a ∷ rs) = (length t ≤ 512 → Treed t) × Steady (appendSubtree t q (a .target) (a .subtree) .nodes) (appendSubtree t q (a .target) (a .subtree) .waiting) rs
+
+steady-by : (rs : List Targeted) (t : List Node) (q : List ℕ) → ((before after : List Targeted) → rs ≡ before ++ after → length (appendLogicRuleResult t q before .nodes) ≤ 512 →
+    Treed (appendLogicRuleResult t q before .nodes)) → Steady t q rs
+unfolding appendLogicRuleResult
+steady-by [] t q f = tt
+steady-by (a ∷ rs) t q f =
+    let p = appendSubtree t q (a .target) (a .subtree) in
+    (f [] (a ∷ rs) refl, steady-by rs (p .nodes) (p .waiting) (λ before after e. f (a ∷ before) after (ap (λ (xs : List Targeted). a ∷ xs) e)))
+
+pub result-steady : (t ns : List Node) (q : List ℕ) (rs : List Targeted) → Each New ns → Issued (length t) (length t + length ns) rs → Treed t → Steady (t ++ ns) q rs
+result-steady t ns q rs new h r =
+    steady-by rs (t ++ ns) q (λ before after e few. result-keeps t ns q before after new (subst (Issued (length t) (length t + length ns)) e h) .treed r (omega (arith, few)))
+
+-- where a rule's result is placed
+pub rule-steady : (F : Flags) (s : State) (x : ℕ) (more : List Rec) (c : Rule ℕ) (q : List ℕ) → Treed (s .nodes) → Steady (s .nodes ++ applyRule F s x more c .nodes) q (applyRule F s x more c .subtrees)
+rule-steady F s x more c q r = result-steady (s .nodes) (applyRule F s x more c .nodes) q (applyRule F s x more c .subtrees) (rule-each New (λ a b c. refl) F s x more c) (rule-issued F s x more c) r
+
+pub here-treed : (s : State) (x : ℕ) (more : List Rec) (fs : Subtree) → Treed (s .nodes) → Treed (s .nodes ++ applyHere s x more fs .nodes)
+here-treed s x more fs = new-treed (s .nodes) (applyHere s x more fs .nodes) (here-each New (λ a b c. refl) s x more fs)
 
 -- the nodes that a rule makes are not in the tree
 pub apply-new : (F : Flags) (s : State) (x : ℕ) → Each New (apply F s x .nodes)

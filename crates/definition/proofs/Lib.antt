@@ -28,5 +28,6 @@ pub mod Partners
 pub mod Takers
 pub mod Marked
 pub mod Fresh
+pub mod Below
 pub mod Calls
 pub mod Computed

@@ -233,6 +233,15 @@ full-reverse (x ∷ xs) h = full-onto xs (x ∷ []) tt
 pub filter-keeps : {A : Type 0} (P : A → Type 0) (p : A → Bool) (xs : List A) → Each P xs → Each P (filter p xs)
 filter-keeps P p xs h = each-map (λ x (k : P x × (p x ≡ true)). k .0) (filter p xs) (each-filter P p xs h)
 
+pub filter-append : {A : Type 0} (p : A → Bool) (xs ys : List A) → filter p (xs ++ ys) ≡ filter p xs ++ filter p ys
+filter-append p [] ys = refl
+filter-append {A} p (x ∷ xs) ys = go (p x) (filter-append p xs ys)
+  where
+    go : (b : Bool) → filter p (xs ++ ys) ≡ filter p xs ++ filter p ys →
+        cond b (x ∷ filter p (xs ++ ys)) (filter p (xs ++ ys)) ≡ cond b (x ∷ filter p xs) (filter p xs) ++ filter p ys
+    go true e = ap (λ (l : List A). x ∷ l) e
+    go false e = e
+
 -- two numbers are equal or not
 pub alike : (x y : ℕ) → (x ≡ y) ⊎ (x ≢ y)
 alike x y = ⊎-elim (λ q. inl (eqb-true x y q)) (λ q. inr (eqb-false x y q)) (either (eqb x y))

@@ -47,13 +47,13 @@ module _ (Q : Node → Type 0) where
     gifts : (g : Graph) (n : Necessity) → Gifts g n
     gifts g n = each-any (λ v. Q (newNode (n .spawner) (n .formula) v)) (new (n .spawner) (n .formula)) (unvisited g n)
 
-    here-each : (s : State) (x : ℕ) (more : List Rec) (fs : Subtree) → Each Q (applyHere s x more fs .nodes)
+    pub here-each : (s : State) (x : ℕ) (more : List Rec) (fs : Subtree) → Each Q (applyHere s x more fs .nodes)
     unfolding applyHere
     here-each s x more fs =
         let w = nodeAt (s .nodes) x .world in
         each-of-map Q (λ f. newNode x f w) (flat (turned fs)) (each-any (λ f. Q (newNode x f w)) (λ f. new x f w) (flat (turned fs)))
 
-    rule-each : (F : Flags) (s : State) (x : ℕ) (more : List Rec) (r : Rule ℕ) → Each Q (applyRule F s x more r .nodes)
+    pub rule-each : (F : Flags) (s : State) (x : ℕ) (more : List Rec) (r : Rule ℕ) → Each Q (applyRule F s x more r .nodes)
     unfolding applyRule applyPossibility applyNecessity
     rule-each F s x more nothing = here-each s x more (withMiddle [])
     rule-each F s x more (down fs) = here-each s x more (withMiddle fs)

@@ -103,7 +103,7 @@ parent-in g r x =
     (λ (o : Out g x). inl (ap (λ (s : Spot). s .parent) (r .loose x o))) (either (placed (g x .place)))
 
 module _ (t : List Node) (r : Treed t) where
-  alive : (x : ℕ) → In (spots t) x → isNobody x ≡ false
+  pub alive : (x : ℕ) → In (spots t) x → isNobody x ≡ false
   alive x i = ne-eqb x nobody (in-out (spots t) x nobody i (r .nobody-out))
 
   upward-nobody : (k : ℕ) → upward k t nobody ≡ []
@@ -165,7 +165,8 @@ module _ (t : List Node) (r : Treed t) where
   abbrev Walked : ℕ → ℕ → Type 0
   Walked n x = (ls : List ℕ) × Distinct ls × Each (Found x) ls × ((k : ℕ) → n ≤ k → leavesBelow k t x ≡ ls)
 
-  kid : ℕ → Place → ℕ
+  -- the child of x at p
+  unfoldable pub kid : ℕ → Place → ℕ
   kid x p = childAt p (nodeAt t x .children)
 
   found-kid : (x : ℕ) (p : Place) (l : ℕ) → Found (kid x p) l → Child (spots t) (r .depth) x p (kid x p)
@@ -185,12 +186,12 @@ module _ (t : List Node) (r : Treed t) where
       let s : f .steps ≡ g .steps = omega (arith, f .depths, g .depths, a .deeper, b .deeper, ap (r .depth) e) in
       ne (sym (a .place) ∙ ap (λ (z : ℕ). nodeAt t z .place) (sym (f .arrives) ∙ ap₂ up s (sym e) ∙ g .arrives) ∙ b .place)
 
-  leaves-nobody : (k : ℕ) → leavesBelow k t nobody ≡ []
+  pub leaves-nobody : (k : ℕ) → leavesBelow k t nobody ≡ []
   unfolding leavesBelow only isLeaf
   leaves-nobody zero = refl
   leaves-nobody (suc k) = rw (ap (λ (s : Spot). s .children) (r .loose nobody (r .nobody-out)))
 
-  leaves-in : (k x : ℕ) → In (spots t) x → 0 < k →
+  pub leaves-in : (k x : ℕ) → In (spots t) x → 0 < k →
       leavesBelow k t x ≡
       cond (isLeaf (nodeAt t x .children)) (x ∷ []) (leavesBelow (k - 1) t (kid x Left) ++ (leavesBelow (k - 1) t (kid x Middle) ++ leavesBelow (k - 1) t (kid x Right)))
   unfolding leavesBelow only kid childAt
@@ -229,6 +230,10 @@ module _ (t : List Node) (r : Treed t) where
   walk zero x h = walk-nobody zero x (λ ne. absurd (omega (arith, h ne .1, depth-low x (h ne .0))))
   walk (suc n) x h =
       walk-nobody (suc n) x (λ ne. walk-in n x (h ne .0) (λ p. walk n (kid x p) (λ k. let c = r .below x p k in (c .there, omega (arith, h ne .1, c .deeper)))))
+
+  -- from no node does the bound of depth decide the leaves
+  pub leaves-from : (k x : ℕ) → In (spots t) x → length t ≤ k → leavesBelow k t x ≡ leavesBelow (length t) t x
+  leaves-from k x i l = let w = walk (length t) x (λ ne. (i, omega arith)) in w .3 k l ∙ sym (w .3 (length t) (omega arith))
 
   walked : Walked (length t) 0
   walked = walk (length t) 0 (λ ne. (root-in (spots t) r, omega arith))

@@ -14,9 +14,11 @@ use Rattle.definition.specs.Graph.{Graph, initializeGraphIfNeeded, forkedWorld,
 use Rattle.definition.specs.Tree.{Node, newNode, nodeAt, leaves, leavesBelow}
 use Rattle.definition.specs.Subtree.{Subtree, Placed, Targeted, withMiddle, appendSubtree, appendLogicRuleResult}
 use Rattle.definition.specs.Modality.{Fork, reapplyNecessityAfterPossibility, necessitiesAfterPossibility}
-use Rattle.definition.specs.Run.{State, applyPossibility}
+use Rattle.definition.specs.Rules.{asPossible}
+use Rattle.definition.specs.Run.{State, applyPossibility, applyRule}
 use Rattle.definition.proofs.Edges.{init-one, init-less}
-use Rattle.definition.proofs.Treed.{leaves-few}
+use Rattle.definition.proofs.Treed.{Treed, leaves-few}
+use Rattle.definition.proofs.Growing.{Steady, rule-steady}
 use Rattle.definition.proofs.Nodes.{ext-subtree, ext-result}
 use Rattle.graph.specs.Drawn.{Drawn}
 use Rattle.tree.specs.Lay.{Held, held}
@@ -54,21 +56,22 @@ pub left-as : {p g : Placed} {r : Counts} {a w : List ℕ} → p ≡ g → Left 
 left-as {p} {g} {r} {a} {w} e l = subst (λ (v : Placed). Left v r a w) e l
 
 pub fork-placed : (ns : List Node) (q : List ℕ) (more : List Targeted) (x base : ℕ) (s : ProofSubtree) {len n items : ℕ} {ta tb tc wa wb wc ia : List ℕ} {top r : Counts} →
-    len ≤ 512 → Held ns len ta → Listed q n wa → base + 2 ≤ length ns → (len ≤ 512 → Listing [] more items len ia) →
+    len ≤ 512 → Held ns len ta → Listed q n wa → base + 2 ≤ length ns → (len ≤ 512 → Listing [] more items len ia) → Steady ns q (forkItem x base ∷ more) →
     (base + 2 ≤ 512 → (subtreeOf s ≡ withMiddle (suc base ∷ base ∷ [])) × ((m : ℕ) → base + 2 ≤ m → Within s m)) →
-    ((ns : List Node) (q : List ℕ) → Held ns len ta → (len ≤ 512 → Listed q n wa) → Within s (length ns) → Left (appendSubtree ns q x (subtreeOf s)) top tb wb) →
+    ((ns : List Node) (q : List ℕ) → Held ns len ta → (len ≤ 512 → Listed q n wa) → Within s (length ns) → (length ns ≤ 512 → Treed ns) → Left (appendSubtree ns q x (subtreeOf s)) top tb wb) →
     ((ns : List Node) (q : List ℕ) (rs : List Row) → Held ns (top .nodes) tb → (top .nodes ≤ 512 → Listed q (top .waiting) wb) → (top .nodes ≤ 512 → Rows rs items ia (length ns)) →
-    Left (appendLogicRuleResult ns q (map itemFrom rs)) r tc wc) →
+    Steady ns q (map itemFrom rs) → Left (appendLogicRuleResult ns q (map itemFrom rs)) r tc wc) →
     Left (appendLogicRuleResult ns q (forkItem x base ∷ more)) r tc wc
 unfolding appendLogicRuleResult
-fork-placed ns q more x base s small h l low list comment one rest =
+fork-placed ns q more x base s small h l low list st comment one rest =
     let e = held-ok h small .0 in
     let c = comment (omega (arith, low, e, small)) in
-    let first = one ns q h (λ _. l) (c .1 (length ns) low) in
+    let first = one ns q h (λ _. l) (c .1 (length ns) low) (st .0) in
     let put = list small in
     let p = appendSubtree ns q x (subtreeOf s) in
     let long = ext-subtree ns q x (subtreeOf s) .longer in
-    let second = rest (p .nodes) (p .waiting) (put .all) (first .nodes) (first .queue) (λ _. rows-more (omega (arith, e, long)) (put .rows)) in
+    let steady = subst (Steady (p .nodes) (p .waiting)) (sym (put .are)) (subst (λ (t : Subtree). Steady (appendSubtree ns q x t .nodes) (appendSubtree ns q x t .waiting) more) (sym (c .0)) (st .1)) in
+    let second = rest (p .nodes) (p .waiting) (put .all) (first .nodes) (first .queue) (λ _. rows-more (omega (arith, e, long)) (put .rows)) steady in
     left-as (ap (λ (rs : List Targeted). appendLogicRuleResult (p .nodes) (p .waiting) rs) (put .are)
     ∙ ap (λ (t : Subtree). appendLogicRuleResult (appendSubtree ns q x t .nodes) (appendSubtree ns q x t .waiting) more) (c .0)) second
 
@@ -95,12 +98,13 @@ module _ (F : Flags) (s : State) (x : ℕ) (recs : List Rec) (f : ℕ) (q : List
 
   pub possibility-after : {made : Given} {r : Counts} {base c n worlds : ℕ} {ta tb ea ra la va oa wa wb ia : List ℕ} → length (s .nodes) ≡ base →
       Gave (s .nodes ++ both) [] (reapplyNecessityAfterPossibility (s .nodes) forked forking (length (s .nodes ++ both)) (s .necessities)) made ta ia →
-      (made .nodes ≤ 512 → Stack (necessitiesAfterPossibility (s .nodes) forked forking (s .necessities)) c oa ra la va) → Drawn forked worlds ea → Listed q n wa →
+      (made .nodes ≤ 512 → Stack (necessitiesAfterPossibility (s .nodes) forked forking (s .necessities)) c oa ra la va) → Drawn forked worlds ea → Listed q n wa → Treed (s .nodes) →
       ((ns : List Node) (q : List ℕ) (more : List Targeted) → Held ns (made .nodes) ta → Listed q n wa → base + 2 ≤ length ns → (made .nodes ≤ 512 → Listing [] more (made .items) (made .nodes) ia) →
+      Steady ns q (forkItem x base ∷ more) →
       Left (appendLogicRuleResult ns q (forkItem x base ∷ more)) r tb wb) →
       After (record { nodes = r .nodes; waiting = r .waiting; worlds = worlds; necessities = c }) tb ea ra la va oa wb (applyPossibility F s x recs f) (placing s q (applyPossibility F s x recs f))
-  unfolding applyPossibility
-  possibility-after {made} {r} {base} {ta = ta} {ia = ia} e gave stack d l place =
+  unfolding applyRule applyPossibility
+  possibility-after {made} {r} {base} {ta = ta} {ia = ia} e gave stack d l tree place =
       let n = length (s .nodes) in
       let two : length (s .nodes ++ both) ≡ n + 2 = length-append (s .nodes) both in
       let R = reapplyNecessityAfterPossibility (s .nodes) forked forking (n + 2) (s .necessities) in
@@ -109,8 +113,8 @@ module _ (F : Flags) (s : State) (x : ℕ) (recs : List Rec) (f : ℕ) (q : List
       let all = s .nodes ++ (both ++ R .nodes) in
       let h = held-as all assoc (got .nodes) in
       let low : base + 2 ≤ length all = omega (arith, e, two, ap length assoc, length-append (s .nodes ++ both) (R .nodes)) in
-      let p = place all q (R .subtrees) h l low (got .rows) in
       let same : forkItem x base ∷ R .subtrees ≡ forkItem x n ∷ R .subtrees = ap (λ (k : ℕ). forkItem x k ∷ R .subtrees) (sym e) in
+      let p = place all q (R .subtrees) h l low (got .rows) (subst (Steady all q) (sym same) (rule-steady F s x recs (asPossible f) q tree)) in
       let out = left-as (ap (appendLogicRuleResult all q) same) p in
       record {
         nodes = out .nodes;

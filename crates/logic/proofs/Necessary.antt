@@ -1,6 +1,6 @@
 -- What a necessity leaves.
 use Prim.Native.Nat.{ℕ, _<_, _≤_}
-use mathlib.Core.Path.{_≡_, ap, subst}
+use mathlib.Core.Path.{_≡_, sym, ap, subst}
 use mathlib.Core.List.{List, [], _∷_, _++_, map, append-nil}
 use mathlib.Core.Option.{none}
 use native.Mathlib.Omega.{arith}
@@ -14,9 +14,11 @@ use Rattle.definition.specs.Graph.{Graph, initializeGraphIfNeeded}
 use Rattle.definition.specs.Tree.{Node, nodeAt, leaves, path}
 use Rattle.definition.specs.Subtree.{Targeted, appendLogicRuleResult}
 use Rattle.definition.specs.Modality.{Necessity, reapplyNecessity, visiting}
-use Rattle.definition.specs.Run.{State, applyNecessity}
+use Rattle.definition.specs.Rules.{asNecessary}
+use Rattle.definition.specs.Run.{State, applyNecessity, applyRule}
 use Rattle.definition.proofs.Lists.{each-map, filter-keeps}
-use Rattle.definition.proofs.Treed.{leaves-within, leaves-few}
+use Rattle.definition.proofs.Treed.{Treed, leaves-within, leaves-few}
+use Rattle.definition.proofs.Growing.{Steady, rule-steady}
 use Rattle.graph.specs.Drawn.{Drawn}
 use Rattle.tree.specs.Lay.{Held}
 use Rattle.tree.proofs.Nodes.{held-ok}
@@ -32,13 +34,13 @@ use Rattle.logic.specs.Sizes.{Before, After, placing, necessityOf}
 use Rattle.logic.proofs.Reapply.{filter-few}
 use Rattle.logic.proofs.Forked.{left-as}
 
-pub given-placed : (ns : List Node) (q : List ℕ) (more : List Targeted) {len n items : ℕ} {ta tb wa wb ia : List ℕ} {r : Counts} → len ≤ 512 → Held ns len ta → Listed q n wa → (len ≤ 512 → Listing [] more items len ia) →
-    ((ns : List Node) (q : List ℕ) (rs : List Row) → Held ns len ta → (len ≤ 512 → Listed q n wa) → (len ≤ 512 → Rows rs items ia (length ns)) → Left (appendLogicRuleResult ns q (map itemFrom rs)) r tb wb) →
+pub given-placed : (ns : List Node) (q : List ℕ) (more : List Targeted) {len n items : ℕ} {ta tb wa wb ia : List ℕ} {r : Counts} → len ≤ 512 → Held ns len ta → Listed q n wa → (len ≤ 512 → Listing [] more items len ia) → Steady ns q more →
+    ((ns : List Node) (q : List ℕ) (rs : List Row) → Held ns len ta → (len ≤ 512 → Listed q n wa) → (len ≤ 512 → Rows rs items ia (length ns)) → Steady ns q (map itemFrom rs) → Left (appendLogicRuleResult ns q (map itemFrom rs)) r tb wb) →
     Left (appendLogicRuleResult ns q more) r tb wb
-given-placed ns q more small h l list rest =
+given-placed ns q more small h l list st rest =
     let put = list small in
     let e = held-ok h small .0 in
-    left-as (ap (λ (rs : List Targeted). appendLogicRuleResult ns q rs) (put .are)) (rest ns q (put .all) h (λ _. l) (λ _. rows-more (omega (arith, e)) (put .rows)))
+    left-as (ap (λ (rs : List Targeted). appendLogicRuleResult ns q rs) (put .are)) (rest ns q (put .all) h (λ _. l) (λ _. rows-more (omega (arith, e)) (put .rows)) (subst (Steady ns q) (sym (put .are)) st))
 
 module _ (s : State) (x f : ℕ) where
   abbrev through : List ℕ
@@ -62,14 +64,14 @@ module _ (F : Flags) (s : State) (x : ℕ) (recs : List Rec) (f : ℕ) (q : List
 
   pub necessity-after : {made : Given} {r : Counts} {c k worlds : ℕ} {ta tb ea ra la va oa wa wb ia : List ℕ} →
       Gave (s .nodes ++ []) [] (reapplyNecessity (s .nodes) graph none (length (s .nodes ++ [])) necessity) made ta ia →
-      Stack (visiting (s .nodes) graph necessity ∷ s .necessities) c oa ra la va → Drawn graph worlds ea → Listed q k wa →
-      ((ns : List Node) (q : List ℕ) (more : List Targeted) → Held ns (made .nodes) ta → Listed q k wa → (made .nodes ≤ 512 → Listing [] more (made .items) (made .nodes) ia) →
+      Stack (visiting (s .nodes) graph necessity ∷ s .necessities) c oa ra la va → Drawn graph worlds ea → Listed q k wa → Treed (s .nodes) →
+      ((ns : List Node) (q : List ℕ) (more : List Targeted) → Held ns (made .nodes) ta → Listed q k wa → (made .nodes ≤ 512 → Listing [] more (made .items) (made .nodes) ia) → Steady ns q more →
       Left (appendLogicRuleResult ns q more) r tb wb) →
       After (record { nodes = r .nodes; waiting = r .waiting; worlds = worlds; necessities = c }) tb ea ra la va oa wb (applyNecessity F s x recs f) (placing s q (applyNecessity F s x recs f))
-  unfolding applyNecessity fresh
-  necessity-after {made} {ta = ta} {ia = ia} gave stack d l place =
+  unfolding applyRule applyNecessity fresh
+  necessity-after {made} {ta = ta} {ia = ia} gave stack d l tree place =
       let t = s .nodes in
       let R = reapplyNecessity t graph none (length t) necessity in
       let got = subst (λ (ns : List Node). Gave ns [] (reapplyNecessity t graph none (length ns) necessity) made ta ia) (append-nil t) gave in
-      let out = place (t ++ R .nodes) q (R .subtrees) (got .nodes) l (got .rows) in
+      let out = place (t ++ R .nodes) q (R .subtrees) (got .nodes) l (got .rows) (rule-steady F s x recs (asNecessary f) q tree) in
       record { nodes = out .nodes; rest = λ small. record { waiting = out .queue small; graph = d; necessities = stack } }

@@ -47,6 +47,7 @@ ghost use Rattle.definition.specs.Modality.{Necessity, Fork, occurs, unvisited,
 ghost use Rattle.definition.specs.Run.{State, applyPossibility, applyNecessity};
 ghost use Rattle.graph.specs.Drawn.{Drawn};
 ghost use Rattle.graph.specs.Logic.{logicOf};
+ghost use Rattle.definition.proofs.Growing.{Steady};
 ghost use Rattle.tree.specs.Lay.{lay, Held};
 ghost use Rattle.necessities.specs.Stored.{InRow, Row};
 ghost use Rattle.necessities.specs.Stack.{Stack, fresh, visits};
@@ -319,7 +320,7 @@ fn place_given(
     n: usize,
 ) -> Counts
     ensures { λ r. ⌜ ((ns : List Node) (q : List ℕ) (more : List Targeted) → Held ns (made .nodes) (now (tree .entry)) → Listed q n (now (wait .entry))
-        → (made .nodes ≤ 512 → Listing [] more (made .items) (made .nodes) (now (items .entry)))
+        → (made .nodes ≤ 512 → Listing [] more (made .items) (made .nodes) (now (items .entry))) → Steady ns q more
         → Left (appendLogicRuleResult ns q more) r (now (tree .exit)) (now (wait .exit))) ⌝ }
 {
     if 512 < made.nodes {
@@ -471,7 +472,7 @@ fn place_fork(
     n: usize,
 ) -> Counts
     ensures { λ r. ⌜ ((ns : List Node) (q : List ℕ) (more : List Targeted) → Held ns (made .nodes) (now (tree .entry)) → Listed q n (now (wait .entry)) → base + 2 ≤ length ns
-        → (made .nodes ≤ 512 → Listing [] more (made .items) (made .nodes) (now (items .entry)))
+        → (made .nodes ≤ 512 → Listing [] more (made .items) (made .nodes) (now (items .entry))) → Steady ns q (record { target = x .0; subtree = withMiddle (suc base ∷ base ∷ []) } ∷ more)
         → Left (appendLogicRuleResult ns q (record { target = x .0; subtree = withMiddle (suc base ∷ base ∷ []) } ∷ more)) r (now (tree .exit)) (now (wait .exit))) ⌝ }
 {
     if 512 < made.nodes {

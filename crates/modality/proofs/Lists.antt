@@ -13,7 +13,7 @@ use borrow.Author.Tests.{eqb-true, eqb-false, eq-eqb, ne-eqb}
 use Rattle.definition.specs.Lists.{any, elem, filter, below}
 use Rattle.definition.specs.Modality.{Necessity, runsThrough}
 use Rattle.definition.proofs.Lists.{either, from-get}
-use Rattle.tree.proofs.Paths.{filter-append}
+use Rattle.definition.proofs.Lists.{filter-append}
 
 eqb-sym : (x y : ℕ) → eqb x y ≡ eqb y x
 eqb-sym x y = ⊎-elim (λ t. t ∙ sym (eq-eqb y x (sym (eqb-true x y t)))) (λ t. t ∙ sym (ne-eqb y x (λ e. eqb-false x y t (sym e)))) (either (eqb x y))

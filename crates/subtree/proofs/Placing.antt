@@ -10,8 +10,9 @@ use lib.Seq.{drop-cons}
 use Rattle.arrays.specs.Listed.{Listed, listed, tooLong}
 use Rattle.arrays.proofs.Listed.{listed-none, listed-count}
 use Rattle.definition.specs.Lists.{filter}
-use Rattle.definition.specs.Tree.{Node, linkChain, leavesBelow, leaves}
+use Rattle.definition.specs.Tree.{Node, linkChain, leaves}
 use Rattle.definition.specs.Subtree.{Subtree, flat, turned, numbered, copied, Placed, appendSubtreeOnLeaf, pushSubtree, appendCopies, appendOn, takes, appendSubtree}
+use Rattle.definition.proofs.Treed.{Treed}
 use Rattle.definition.proofs.Nodes.{length-leaf, ext-copies, ext-subtree}
 use Rattle.definition.proofs.Issued.{flat-numbered, length-from}
 use Rattle.tree.specs.Lay.{lay, Held, tooMany}
@@ -199,14 +200,11 @@ listed-many : {l : List ℕ} {m : ℕ} {a : List ℕ} → Listed l m a → 512 <
 listed-many (listed b e q) h = absurd (omega arith)
 listed-many (tooLong b e) h = e
 
--- what `takers_below` finds from the root down
-pub found-takers : (target : ℕ) (ns : List Node) {len m : ℕ} {a found : List ℕ} → Held ns len a → len ≤ 512
-    → ((ms : List Node) (l : List ℕ) → length ms ≡ len → len ≤ 512 → a ≡ lay ms → Listed l 0 (replicate 512 0) → Listed (l ++ filter (takes ms target) (leavesBelow len ms 0)) m found)
+-- what `takers` finds
+pub found-takers : (target : ℕ) (ns : List Node) {len m : ℕ} {a found : List ℕ} → Held ns len a → len ≤ 512 → (length ns ≤ 512 → Treed ns)
+    → ((ms : List Node) → Treed ms → length ms ≡ len → len ≤ 512 → a ≡ lay ms → Listed [] 0 (replicate 512 0) → Listed (filter (takes ms target) (leaves ms)) m found)
     → Listed (filter (takes ns target) (leaves ns)) m found
-unfolding leaves
-found-takers target ns {len} {m} {a} {found} p h f =
-    let o = held-ok p h in
-    subst (λ (k : ℕ). Listed (filter (takes ns target) (leavesBelow k ns 0)) m found) (sym (o .0)) (f ns [] (o .0) h (o .1) listed-none)
+found-takers target ns p h r f = let o = held-ok p h in f ns (r (omega (arith, o .0, h))) (o .0) h (o .1) listed-none
 
 -- ---- the ways out of `append_subtree`
 module _ (s : ProofSubtree) (target : ℕ) (ns : List Node) (q : List ℕ) where

@@ -18,6 +18,8 @@ use Rattle.definition.specs.Subtree.{Subtree, Targeted, Placed, flat, withMiddl
 use Rattle.definition.proofs.Lists.{true-false, each-map, each-get, each-append}
 use Rattle.definition.proofs.Nodes.{ext-subtree, ext-result}
 use Rattle.definition.proofs.Issued.{length-from}
+use Rattle.definition.proofs.Treed.{Treed}
+use Rattle.definition.proofs.Growing.{Steady}
 use Rattle.tree.specs.Lay.{Held}
 use Rattle.tree.proofs.Nodes.{held-ok, held-long}
 use Rattle.subtree.specs.declared.ProofSubtree.{ProofSubtree}
@@ -55,17 +57,18 @@ module _ (rs : List Row) (r : Row) where
   filled-same : r .count ≡ 0 → filled (rs ++ (r ∷ [])) ≡ filled rs
   filled-same z = filled-snoc rs r ∙ ap (λ (k : ℕ). filled rs ++ cond (some-node k) (r ∷ []) []) z ∙ append-nil (filled rs)
 
+row-empty : (r : Row) → r .count ≡ 0 → length (flat (withMiddle (upFrom (r .count) (r .start)))) ≡ 0
+unfolding flat
+row-empty r z = omega (arith, z, length-append (upFrom (r .count) (r .start)) [], length-from (r .count) (r .start))
+
 -- a row without a node places nothing
 result-filled : (rs : List Row) (t : List Node) (q : List ℕ) → appendLogicRuleResult t q (map itemFrom (filled rs)) ≡ appendLogicRuleResult t q (map itemFrom rs)
-unfolding appendLogicRuleResult flat
+unfolding appendLogicRuleResult
 result-filled [] t q = refl
 result-filled (r ∷ rs) t q = go (some-node (r .count)) refl (result-filled rs)
   where
     s : Subtree
     s = withMiddle (upFrom (r .count) (r .start))
-
-    none : r .count ≡ 0 → length (flat (withMiddle (upFrom (r .count) (r .start)))) ≡ 0
-    none z = omega (arith, z, length-append (upFrom (r .count) (r .start)) [], length-from (r .count) (r .start))
 
     go : (b : Bool) → some-node (r .count) ≡ b
         → ((u : List Node) (w : List ℕ) → appendLogicRuleResult u w (map itemFrom (filled rs)) ≡ appendLogicRuleResult u w (map itemFrom rs))
@@ -73,7 +76,7 @@ result-filled (r ∷ rs) t q = go (some-node (r .count)) refl (result-filled rs)
         ≡ appendLogicRuleResult (appendSubtree t q (r .target) s .nodes) (appendSubtree t q (r .target) s .waiting) (map itemFrom rs)
     go true e f = f (appendSubtree t q (r .target) s .nodes) (appendSubtree t q (r .target) s .waiting)
     go false e f =
-        f t q ∙ ap (λ (p : Placed). appendLogicRuleResult (p .nodes) (p .waiting) (map itemFrom rs)) (sym (subtree-nothing t q (r .target) s (none (no-node (r .count) e))))
+        f t q ∙ ap (λ (p : Placed). appendLogicRuleResult (p .nodes) (p .waiting) (map itemFrom rs)) (sym (subtree-nothing t q (r .target) s (row-empty r (no-node (r .count) e))))
 
 -- ---- a row more
 pub rows-none : (m : ℕ) → Rows [] 0 (replicate 1536 0) m
@@ -157,17 +160,30 @@ module _ {rs : List Row} {n m : ℕ} {a : List ℕ} (g : m ≤ 512) where
   row-below k h (tooMany b e) = absurd (omega arith)
   row-below k h (rows b d e q w) = each-get (λ (r : Row). r .start + r .count ≤ m) (filled rs) noRow w k (λ g. absurd (omega arith))
 
+steady-filled : (rs : List Row) (t : List Node) (q : List ℕ) → Steady t q (map itemFrom rs) → Steady t q (map itemFrom (filled rs))
+steady-filled [] t q h = h
+steady-filled (r ∷ rs) t q h = go (some-node (r .count)) refl (steady-filled rs)
+  where
+    s : Subtree
+    s = withMiddle (upFrom (r .count) (r .start))
+
+    go : (b : Bool) → some-node (r .count) ≡ b → ((u : List Node) (w : List ℕ) → Steady u w (map itemFrom rs) → Steady u w (map itemFrom (filled rs)))
+        → Steady t q (map itemFrom (cond b (r ∷ filled rs) (filled rs)))
+    go true e f = (h .0, f (appendSubtree t q (r .target) s .nodes) (appendSubtree t q (r .target) s .waiting) (h .1))
+    go false e f = f t q (subst (λ (p : Placed). Steady (p .nodes) (p .waiting) (map itemFrom rs)) (subtree-nothing t q (r .target) s (row-empty r (no-node (r .count) e))) (h .1))
+
 -- ---- the loop of `append_logic_rule_result`: the rows that are left lead to the goal
 pub record Joining (goal : Placed) (rest : List Row) (low : ℕ) (r : Counts) (a w : List ℕ) : Type 0 where
   pub so-far : Placed
   pub here : Left so-far r a w
   pub longer : low ≤ length (so-far .nodes)
   pub same : appendLogicRuleResult (so-far .nodes) (so-far .waiting) (map itemFrom rest) ≡ goal
+  pub steady : Steady (so-far .nodes) (so-far .waiting) (map itemFrom rest)
 
-pub joining-start : (ns : List Node) (q : List ℕ) (rs : List Row) {len n : ℕ} {a w : List ℕ} → Held ns len a → (len ≤ 512 → Listed q n w)
+pub joining-start : (ns : List Node) (q : List ℕ) (rs : List Row) {len n : ℕ} {a w : List ℕ} → Held ns len a → (len ≤ 512 → Listed q n w) → Steady ns q (map itemFrom rs)
     → Joining (appendLogicRuleResult ns q (map itemFrom rs)) (filled rs) (length ns) (record { nodes = len; waiting = n }) a w
-joining-start ns q rs p f =
-    record { so-far = record { nodes = ns; waiting = q }; here = record { nodes = p; queue = f }; longer = omega arith; same = result-filled rs ns q }
+joining-start ns q rs p f st =
+    record { so-far = record { nodes = ns; waiting = q }; here = record { nodes = p; queue = f }; longer = omega arith; same = result-filled rs ns q; steady = steady-filled rs ns q st }
 
 abbrev targeted : ℕ → Subtree → Targeted
 targeted x s = record { target = x; subtree = s }
@@ -189,19 +205,15 @@ pub joining-next : {goal : Placed} {low n : ℕ} {r r′ : Counts} {a a′ w w�
     → k < n → low ≤ 512 → Rows rs n items low → Reads items k 0 x → Reads items k 1 u → Reads items k 2 v
     → (subtreeOf s ≡ withMiddle (upFrom v u)) × ((m : ℕ) → u + v ≤ m → Within s m)
     → Joining goal (drop k (filled rs)) low r a w
-    → ((ns : List Node) (q : List ℕ) → Held ns (r .nodes) a → (r .nodes ≤ 512 → Listed q (r .waiting) w) → Within s (length ns) → Left (appendSubtree ns q x (subtreeOf s)) r′ a′ w′)
+    → ((ns : List Node) (q : List ℕ) → Held ns (r .nodes) a → (r .nodes ≤ 512 → Listed q (r .waiting) w) → Within s (length ns) → (length ns ≤ 512 → Treed ns) → Left (appendSubtree ns q x (subtreeOf s)) r′ a′ w′)
     → Joining goal (drop (k + 1) (filled rs)) low r′ a′ w′
 joining-next {goal} {low} {n} rs k s x u v h g t ex eu ev b c f =
     record {
       so-far = appendSubtree ns q x (subtreeOf s);
-      here = f ns q (c .here .nodes) (c .here .queue) (within-more s (c .longer) (b .1 low (omega (arith, qu, qv, row-below g k h t))));
+      here = f ns q (c .here .nodes) (c .here .queue) (within-more s (c .longer) (b .1 low (omega (arith, qu, qv, row-below g k h t)))) (steady .0);
       longer = omega (arith, c .longer, ext-subtree ns q x (subtreeOf s) .longer);
-      same =
-          ap (λ (i : ℕ). appendLogicRuleResult (appendSubtree ns q x (subtreeOf s) .nodes) (appendSubtree ns q x (subtreeOf s) .waiting) (map itemFrom (drop i ss))) (add-one k)
-          ∙ sym (result-cons ns q x (subtreeOf s) (map itemFrom (drop (suc k) ss)))
-          ∙ ap (λ (i : Targeted). appendLogicRuleResult ns q (i ∷ map itemFrom (drop (suc k) ss))) item
-          ∙ ap (λ (l : List Row). appendLogicRuleResult ns q (map itemFrom l)) (sym (drop-cons ss k noRow (omega (arith, rows-count g t .0))))
-          ∙ c .same;
+      same = sym (result-cons ns q x (subtreeOf s) (map itemFrom (drop (k + 1) ss))) ∙ ap (appendLogicRuleResult ns q) (sym rest-is) ∙ c .same;
+      steady = steady .1;
     }
   where
     ns : List Node
@@ -230,6 +242,15 @@ joining-next {goal} {low} {n} rs k s x u v h g t ex eu ev b c f =
         ap (λ (y : ℕ). targeted y (subtreeOf s)) qx
         ∙ ap (targeted (getD ss k noRow .target))
         (b .0 ∙ ap (λ (y : ℕ). withMiddle (upFrom y u)) qv ∙ ap (λ (y : ℕ). withMiddle (upFrom (getD ss k noRow .count) y)) qu)
+
+    rest-is : map itemFrom (drop k ss) ≡ targeted x (subtreeOf s) ∷ map itemFrom (drop (k + 1) ss)
+    rest-is =
+        ap (map itemFrom) (drop-cons ss k noRow (omega (arith, rows-count g t .0)))
+        ∙ ap (λ (i : ℕ). itemFrom (getD ss k noRow) ∷ map itemFrom (drop i ss)) (sym (add-one k))
+        ∙ ap (λ (i : Targeted). i ∷ map itemFrom (drop (k + 1) ss)) (sym item)
+
+    steady : Steady ns q (targeted x (subtreeOf s) ∷ map itemFrom (drop (k + 1) ss))
+    steady = subst (Steady ns q) rest-is (c .steady)
 
 pub joining-end : {goal : Placed} {low : ℕ} {r : Counts} {a w : List ℕ} (rs : List Row) (k : ℕ) → length rs ≤ k → Joining goal (drop k rs) low r a w → Left goal r a w
 joining-end {goal} rs k h c =

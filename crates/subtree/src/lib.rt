@@ -9,7 +9,7 @@ use tree::formula_of;
 use tree::link_chain;
 use tree::new_node;
 use tree::spawner_of;
-use tree::takers_below;
+use tree::takers;
 use tree::world_of;
 ghost use mathlib.Core.Path.{_≡_};
 ghost use mathlib.Core.List.{List, [], _∷_, _++_, map, reverse};
@@ -19,6 +19,8 @@ ghost use Rattle.arrays.specs.Listed.{Listed};
 ghost use Rattle.definition.specs.Lists.{upFrom};
 ghost use Rattle.definition.specs.Tree.{Node};
 ghost use Rattle.definition.specs.Subtree.{withMiddle, flat, numbered, copied, appendSubtreeOnLeaf, pushSubtree, appendCopies, appendOn, appendSubtree, appendLogicRuleResult};
+ghost use Rattle.definition.proofs.Treed.{Treed};
+ghost use Rattle.definition.proofs.Growing.{Steady};
 ghost use Rattle.tree.specs.Lay.{Held};
 ghost use Rattle.tree.specs.Chain.{chainOf, Below};
 ghost use Rattle.subtree.specs.Subtree.{subtreeOf, Within, Left};
@@ -260,7 +262,7 @@ pub fn append_subtree(
     n: usize,
 ) -> Counts
     ensures { λ r. ⌜ ((ns : List Node) (q : List ℕ) → Held ns len (now (tree .entry)) → (len ≤ 512 → Listed q n (now (wait .entry))) → Within s (length ns)
-        → Left (appendSubtree ns q (target .0) (subtreeOf s)) r (now (tree .exit)) (now (wait .exit))) ⌝ }
+        → (length ns ≤ 512 → Treed ns) → Left (appendSubtree ns q (target .0) (subtreeOf s)) r (now (tree .exit)) (now (wait .exit))) ⌝ }
 {
     let as_it_was = Counts {
         nodes: len,
@@ -273,7 +275,7 @@ pub fn append_subtree(
         return as_it_was;
     }
     let mut found = [0u16; 512];
-    let m = takers_below(tree, len, target, ProofTreeNodeID(0), len, &mut found, 0);
+    let m = takers(tree, len, target, &mut found);
     if 512 < m {
         return Counts {
             nodes: 513,
@@ -329,7 +331,8 @@ pub fn append_logic_rule_result(
     n: usize,
 ) -> Counts
     ensures { λ r. ⌜ ((ns : List Node) (q : List ℕ) (rs : List Row) → Held ns len (now (tree .entry)) → (len ≤ 512 → Listed q n (now (wait .entry)))
-        → (len ≤ 512 → Rows rs count (now (items .entry)) (length ns)) → Left (appendLogicRuleResult ns q (map itemFrom rs)) r (now (tree .exit)) (now (wait .exit))) ⌝ }
+        → (len ≤ 512 → Rows rs count (now (items .entry)) (length ns)) → Steady ns q (map itemFrom rs)
+        → Left (appendLogicRuleResult ns q (map itemFrom rs)) r (now (tree .exit)) (now (wait .exit))) ⌝ }
 {
     let mut here = Counts {
         nodes: len,

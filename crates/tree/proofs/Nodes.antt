@@ -17,18 +17,21 @@ use Rattle.tree.proofs.Sequence.{id-next, count-full, count-more}
 use Rattle.tree.proofs.Rows.{lay-set, lay-same, lay-blank}
 
 -- ---- leaves
-module _ (c : Children) where
-  pub leaf-yes : {x y z : Bool} (l m r : ℕ) → l ≡ c .left → x ≡ isNobody l → x ≡ true → m ≡ c .middle → y ≡ isNobody m → y ≡ true → r ≡ c .right → z ≡ isNobody r → z ≡ isLeaf c
-  unfolding isLeaf
-  leaf-yes {x} {y} {z} l m r el ex tx em ey ty er ez = rw (← el, ← ex, tx, ← em, ← ey, ty, ← er, ← ez) refl
+module _ (l m r : ℕ) {x : Bool} (ex : x ≡ isNobody l) where
+  abbrev three : Children
+  three = record { left = l; middle = m; right = r }
 
-  pub leaf-middle : {x y : Bool} (l m : ℕ) → l ≡ c .left → x ≡ isNobody l → x ≡ true → m ≡ c .middle → y ≡ isNobody m → y ≡ false → y ≡ isLeaf c
+  pub none-yes : {y z : Bool} → x ≡ true → y ≡ isNobody m → y ≡ true → z ≡ isNobody r → z ≡ isLeaf three
   unfolding isLeaf
-  leaf-middle {x} {y} l m el ex tx em ey ty = rw (← el, ← ex, tx, ← em, ← ey, ty) refl
+  none-yes tx ey ty ez = rw (← ex, tx, ← ey, ty, ← ez) refl
 
-  pub leaf-left : {x : Bool} (l : ℕ) → l ≡ c .left → x ≡ isNobody l → x ≡ false → x ≡ isLeaf c
+  pub none-middle : {y : Bool} → x ≡ true → y ≡ isNobody m → y ≡ false → y ≡ isLeaf three
   unfolding isLeaf
-  leaf-left {x} l el ex tx = rw (← el, ← ex, tx) refl
+  none-middle tx ey ty = rw (← ex, tx, ← ey, ty) refl
+
+  pub none-left : x ≡ false → x ≡ isLeaf three
+  unfolding isLeaf
+  none-left tx = rw (← ex, tx) refl
 
 pub marked : (n : Node) {x : Bool} (k : ℕ) → k ≡ n .contrarian → x ≡ isNobody k → not x ≡ isContradictory n
 unfolding isContradictory

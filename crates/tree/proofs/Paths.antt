@@ -1,16 +1,21 @@
 -- Paths, walked from the leaf up, and leaves, walked from a node down.
 use Prim.Native.Nat.{ℕ, zero, suc, _+_, _-_, _<_, _≤_}
 use mathlib.Core.Path.{_≡_, refl, sym, ap, _∙_, subst}
-use mathlib.Core.Bool.{Bool, true, false, cond, _||_, not}
+use mathlib.Core.Bool.{Bool, true, false, _||_}
 use mathlib.Core.List.{List, [], _∷_, _++_, append-assoc, append-nil}
 use native.Mathlib.Omega.{arith}
 use native.Mathlib.Numerals.{sub-one}
-use lib.ListN.{length}
+use borrow.Author.Tests.{eqb-true}
+use lib.ListN.{length, List·getD-eq-default}
 use Rattle.arrays.specs.Listed.{Listed}
-use Rattle.definition.specs.Lists.{any, elem, filter}
-use Rattle.definition.specs.Records.{isNobody}
-use Rattle.definition.specs.Tree.{Node, nodeAt, isContradictory, isLeaf, only, leavesBelow, upward, leaves, path}
+use Rattle.definition.specs.Lists.{any, filter}
+use Rattle.definition.specs.Records.{nobody, isNobody}
+use Rattle.definition.specs.Tree.{Node, Place, Root, Left, Middle, Right, Unplaced, Children, newNode, nodeAt, isContradictory, isLeaf, only, leavesBelow, upward, leaves, path}
 use Rattle.definition.specs.Subtree.{takes}
+use Rattle.definition.proofs.Treed.{placed, Treed}
+use Rattle.definition.proofs.Takers.{closed}
+use Rattle.definition.proofs.Below.{openBelow, takers-out, takers-closed, takers-below}
+use Rattle.tree.specs.Lay.{placeCode}
 
 -- ---- from the leaf up
 up-zero : (t : List Node) (x : ℕ) → upward 0 t x ≡ []
@@ -55,24 +60,7 @@ module _ (t : List Node) (p : ℕ → Bool) {goal : Bool} (len k cur : ℕ) (inv
         ∙ ap (λ (w : Bool). w || any p (upward (len - (k + 1)) t (nodeAt t cur .parent))) (sym (sym q ∙ s))
         ∙ further
 
-module _ (t : List Node) (target leaf : ℕ) {x : Bool} (e : x ≡ elem target (path t leaf)) where
-  pub takes-holds : {y : Bool} → x ≡ true → y ≡ any (λ v. isContradictory (nodeAt t v)) (path t leaf) → not y ≡ takes t target leaf
-  unfolding takes
-  takes-holds {y} h d = rw (← e, h, d) refl
-
-  pub takes-lacks : x ≡ false → x ≡ takes t target leaf
-  unfolding takes
-  takes-lacks h = rw (← e, h) refl
-
--- ---- one node
-pub only-none : {b : Bool} (x : ℕ) → b ≡ isNobody x → b ≡ true → only x ≡ []
-unfolding only
-only-none x e h = rw (← e, h) refl
-
-pub only-node : {b : Bool} (x : ℕ) → b ≡ isNobody x → b ≡ false → only x ≡ x ∷ []
-unfolding only
-only-node x e h = rw (← e, h) refl
-
+-- ---- lists
 pub listed-as : {n : ℕ} {a l : List ℕ} (m : List ℕ) → l ≡ m → Listed l n a → Listed m n a
 listed-as {n} {a} m e p = subst (λ (v : List ℕ). Listed v n a) e p
 
@@ -80,61 +68,124 @@ listed-as {n} {a} m e p = subst (λ (v : List ℕ). Listed v n a) e p
 pub listed-more : {n : ℕ} {a : List ℕ} (l m : List ℕ) → m ≡ [] → Listed l n a → Listed (l ++ m) n a
 listed-more l m e p = listed-as (l ++ m) (sym (ap (λ (v : List ℕ). l ++ v) e ∙ append-nil l)) p
 
-module _ (p : ℕ → Bool) (x : ℕ) {b v : Bool} (e : b ≡ isNobody x) (node : b ≡ false) (q : v ≡ p x) where
-  pub filter-yes : v ≡ true → filter p (only x) ≡ x ∷ []
-  filter-yes h = ap (filter p) (only-node x e node) ∙ ap (λ (w : Bool). cond w (x ∷ []) []) (sym q ∙ h)
-
-  pub filter-no : v ≡ false → filter p (only x) ≡ []
-  filter-no h = ap (filter p) (only-node x e node) ∙ ap (λ (w : Bool). cond w (x ∷ []) []) (sym q ∙ h)
-
-pub filter-append : (p : ℕ → Bool) (xs ys : List ℕ) → filter p (xs ++ ys) ≡ filter p xs ++ filter p ys
-filter-append p [] ys = refl
-filter-append p (x ∷ xs) ys = go (p x) (filter-append p xs ys)
-  where
-    go : (b : Bool) → filter p (xs ++ ys) ≡ filter p xs ++ filter p ys →
-        cond b (x ∷ filter p (xs ++ ys)) (filter p (xs ++ ys)) ≡ cond b (x ∷ filter p xs) (filter p xs) ++ filter p ys
-    go true e = ap (λ (l : List ℕ). x ∷ l) e
-    go false e = e
-
 -- ---- from a node down
-below-end : (t : List Node) (d x : ℕ) → d ≡ 0 → leavesBelow d t x ≡ only x
-unfolding leavesBelow
-below-end t d x e = rw e
-
-below-leaf : (t : List Node) (d x : ℕ) {b : Bool} → b ≡ isLeaf (nodeAt t x .children) → b ≡ true → leavesBelow d t x ≡ only x
-unfolding leavesBelow
-below-leaf t zero x e h = refl
-below-leaf t (suc d) x e h = rw (← e, h) refl
-
-below-deep : (t : List Node) (d x l m r : ℕ) {b : Bool} → (d ≡ 0 → ⊥) → b ≡ isLeaf (nodeAt t x .children) → b ≡ false →
-    l ≡ nodeAt t x .children .left → m ≡ nodeAt t x .children .middle → r ≡ nodeAt t x .children .right →
-    leavesBelow d t x ≡ leavesBelow (d - 1) t l ++ (leavesBelow (d - 1) t m ++ leavesBelow (d - 1) t r)
-unfolding leavesBelow
-below-deep t zero x l m r z e h el em er = absurd (z refl)
-below-deep t (suc j) x l m r z e h el em er = rw (← e, h, ← el, ← em, ← er, sub-one) refl
-
 -- the leaves of the tree
 pub leaves-as : (t : List Node) (len : ℕ) → length t ≡ len → leavesBelow len t 0 ≡ leaves t
 unfolding leaves
 leaves-as t len e = ap (λ (d : ℕ). leavesBelow d t 0) (sym e)
 
--- the leaves below x, of which g keeps some
-module _ (t : List Node) (g : List ℕ → List ℕ) (split : (xs ys : List ℕ) → g (xs ++ ys) ≡ g xs ++ g ys) (d x : ℕ) (k : List ℕ) {n : ℕ} {a : List ℕ} where
-  pub walk-end : d ≡ 0 → Listed (k ++ g (only x)) n a → Listed (k ++ g (leavesBelow d t x)) n a
-  walk-end z = listed-as (k ++ g (leavesBelow d t x)) (ap (λ (v : List ℕ). k ++ g v) (sym (below-end t d x z)))
+-- three lists, one after the other
+three-appended : (k u v w s : List ℕ) → u ++ (v ++ w) ≡ s → ((k ++ u) ++ v) ++ w ≡ k ++ s
+three-appended k u v w s e = append-assoc (k ++ u) v w ∙ append-assoc k u (v ++ w) ∙ ap (λ (z : List ℕ). k ++ z) e
 
-  pub walk-leaf : {b : Bool} → b ≡ isLeaf (nodeAt t x .children) → b ≡ true → Listed (k ++ g (only x)) n a → Listed (k ++ g (leavesBelow d t x)) n a
-  walk-leaf e h = listed-as (k ++ g (leavesBelow d t x)) (ap (λ (v : List ℕ). k ++ g v) (sym (below-leaf t d x e h)))
+-- the children of a node, read one by one
+pub leaf-as : (c : Children) (l m r : ℕ) {v : Bool} → l ≡ c .left → m ≡ c .middle → r ≡ c .right → v ≡ isLeaf (record { left = l; middle = m; right = r }) → isLeaf c ≡ v
+unfolding isLeaf
+leaf-as c l m r el em er w = sym (w ∙ rw (el, em, er) refl)
 
-  pub walk-deep : {b : Bool} (l m r : ℕ) → (d ≡ 0 → ⊥) → b ≡ isLeaf (nodeAt t x .children) → b ≡ false →
-      l ≡ nodeAt t x .children .left → m ≡ nodeAt t x .children .middle → r ≡ nodeAt t x .children .right →
-      Listed (((k ++ g (leavesBelow (d - 1) t l)) ++ g (leavesBelow (d - 1) t m)) ++ g (leavesBelow (d - 1) t r)) n a → Listed (k ++ g (leavesBelow d t x)) n a
-  walk-deep l m r z e h el em er =
-      let u = leavesBelow (d - 1) t l in
-      let v = leavesBelow (d - 1) t m in
-      let w = leavesBelow (d - 1) t r in
-      listed-as (k ++ g (leavesBelow d t x))
-      (append-assoc (k ++ g u) (g v) (g w)
-      ∙ append-assoc k (g u) (g v ++ g w)
-      ∙ ap (λ (s : List ℕ). k ++ s) (sym (split u (v ++ w) ∙ ap (λ (s : List ℕ). g u ++ s) (split v w)))
-      ∙ ap (λ (s : List ℕ). k ++ g s) (sym (below-deep t d x l m r z e h el em er)))
+-- nobody has no child
+nobody-leaf : (t : List Node) (x : ℕ) → length t ≤ 512 → isNobody x ≡ true → isLeaf (nodeAt t x .children) ≡ true
+unfolding isLeaf
+nobody-leaf t x h e =
+    let q = eqb-true x nobody e in
+    ap (λ (n : Node). isLeaf (n .children)) (List·getD-eq-default t (newNode nobody nobody nobody) {n = x} (omega (arith, q)))
+
+module _ (t : List Node) (d x : ℕ) (k : List ℕ) {n : ℕ} {a : List ℕ} {b : Bool} (e : b ≡ isNobody x) where
+  pub walk-none : length t ≤ 512 → b ≡ true → Listed k n a → Listed (k ++ leavesBelow d t x) n a
+  unfolding leavesBelow only
+  walk-none h q = listed-more k (leavesBelow d t x) (go d)
+    where
+      go : (m : ℕ) → leavesBelow m t x ≡ []
+      go zero = rw (← e, q) refl
+      go (suc m) = rw (nobody-leaf t x h (sym e ∙ q), ← e, q) refl
+
+  pub walk-end : b ≡ false → d ≡ 0 → Listed (k ++ (x ∷ [])) n a → Listed (k ++ leavesBelow d t x) n a
+  unfolding leavesBelow only
+  walk-end q z = listed-as (k ++ leavesBelow d t x) (ap (λ (v : List ℕ). k ++ v) (rw (z, ← e, q) refl))
+
+  pub open-none : b ≡ true → Listed k n a → Listed (k ++ openBelow d t x) n a
+  unfolding openBelow
+  open-none q = listed-more k (openBelow d t x) (go d)
+    where
+      go : (m : ℕ) → openBelow m t x ≡ []
+      go zero = rw (← e, q) refl
+      go (suc m) = rw (← e, q) refl
+
+  module _ (q : b ≡ false) {c : Bool} (f : c ≡ isContradictory (nodeAt t x)) where
+    pub open-closed : c ≡ true → Listed k n a → Listed (k ++ openBelow d t x) n a
+    unfolding openBelow
+    open-closed y = listed-more k (openBelow d t x) (go d)
+      where
+        go : (m : ℕ) → openBelow m t x ≡ []
+        go zero = rw (← e, q, ← f, y) refl
+        go (suc m) = rw (← e, q, ← f, y) refl
+
+    pub open-end : c ≡ false → d ≡ 0 → Listed (k ++ (x ∷ [])) n a → Listed (k ++ openBelow d t x) n a
+    unfolding openBelow
+    open-end y z = listed-as (k ++ openBelow d t x) (ap (λ (v : List ℕ). k ++ v) (rw (z, ← e, q, ← f, y) refl))
+
+  -- the children of x, read once
+  module _ {v : Bool} (l m r : ℕ) (el : l ≡ nodeAt t x .children .left) (em : m ≡ nodeAt t x .children .middle) (er : r ≡ nodeAt t x .children .right)
+      (w : v ≡ isLeaf (record { left = l; middle = m; right = r })) where
+    pub walk-leaf : b ≡ false → v ≡ true → Listed (k ++ (x ∷ [])) n a → Listed (k ++ leavesBelow d t x) n a
+    unfolding leavesBelow only
+    walk-leaf q y = listed-as (k ++ leavesBelow d t x) (ap (λ (z : List ℕ). k ++ z) (sym (go d)))
+      where
+        go : (j : ℕ) → leavesBelow j t x ≡ x ∷ []
+        go zero = rw (← e, q) refl
+        go (suc j) = rw (leaf-as (nodeAt t x .children) l m r el em er w, y, ← e, q) refl
+
+    pub walk-deep : (d ≡ 0 → ⊥) → v ≡ false → Listed (((k ++ leavesBelow (d - 1) t l) ++ leavesBelow (d - 1) t m) ++ leavesBelow (d - 1) t r) n a → Listed (k ++ leavesBelow d t x) n a
+    unfolding leavesBelow
+    walk-deep z y = listed-as (k ++ leavesBelow d t x) (three-appended k (leavesBelow (d - 1) t l) (leavesBelow (d - 1) t m) (leavesBelow (d - 1) t r) (leavesBelow d t x) (go d z))
+      where
+        go : (j : ℕ) → (j ≡ 0 → ⊥) → leavesBelow (j - 1) t l ++ (leavesBelow (j - 1) t m ++ leavesBelow (j - 1) t r) ≡ leavesBelow j t x
+        go zero z = absurd (z refl)
+        go (suc j) z = rw (leaf-as (nodeAt t x .children) l m r el em er w, y, ← el, ← em, ← er, sub-one) refl
+
+    module _ (q : b ≡ false) {c : Bool} (f : c ≡ isContradictory (nodeAt t x)) (u : c ≡ false) where
+      pub open-leaf : v ≡ true → Listed (k ++ (x ∷ [])) n a → Listed (k ++ openBelow d t x) n a
+      unfolding openBelow
+      open-leaf y = listed-as (k ++ openBelow d t x) (ap (λ (z : List ℕ). k ++ z) (sym (go d)))
+        where
+          go : (j : ℕ) → openBelow j t x ≡ x ∷ []
+          go zero = rw (← e, q, ← f, u) refl
+          go (suc j) = rw (leaf-as (nodeAt t x .children) l m r el em er w, y, ← e, q, ← f, u) refl
+
+      pub open-deep : (d ≡ 0 → ⊥) → v ≡ false → Listed (((k ++ openBelow (d - 1) t l) ++ openBelow (d - 1) t m) ++ openBelow (d - 1) t r) n a → Listed (k ++ openBelow d t x) n a
+      unfolding openBelow
+      open-deep z y = listed-as (k ++ openBelow d t x) (three-appended k (openBelow (d - 1) t l) (openBelow (d - 1) t m) (openBelow (d - 1) t r) (openBelow d t x) (go d z))
+        where
+          go : (j : ℕ) → (j ≡ 0 → ⊥) → openBelow (j - 1) t l ++ (openBelow (j - 1) t m ++ openBelow (j - 1) t r) ≡ openBelow j t x
+          go zero z = absurd (z refl)
+          go (suc j) z = rw (leaf-as (nodeAt t x .children) l m r el em er w, y, ← e, q, ← f, u, ← el, ← em, ← er, sub-one) refl
+
+-- ---- the leaves that take what goes below the target
+-- no place is no place in the tree
+out-code : (p : Place) → placeCode p ≡ 65535 → placed p ≡ false
+unfolding placed
+out-code Root e = absurd (omega (arith, e))
+out-code Left e = absurd (omega (arith, e))
+out-code Middle e = absurd (omega (arith, e))
+out-code Right e = absurd (omega (arith, e))
+out-code Unplaced e = refl
+
+in-code : (p : Place) → (placeCode p ≡ 65535 → ⊥) → placed p ≡ true
+unfolding placed
+in-code Root e = refl
+in-code Left e = refl
+in-code Middle e = refl
+in-code Right e = refl
+in-code Unplaced e = absurd (e refl)
+
+module _ (t : List Node) (r : Treed t) (g : ℕ) {p : ℕ} (e : p ≡ placeCode (nodeAt t g .place)) where
+  pub takers-none : {a : List ℕ} → p ≡ 65535 → Listed [] 0 a → Listed (filter (takes t g) (leaves t)) 0 a
+  takers-none q = listed-as (filter (takes t g) (leaves t)) (sym (takers-out t r g (out-code (nodeAt t g .place) (sym e ∙ q))))
+
+  module _ (q : p ≡ 65535 → ⊥) {c : Bool} (f : c ≡ closed t g) where
+    pub takers-shut : {a : List ℕ} → c ≡ true → Listed [] 0 a → Listed (filter (takes t g) (leaves t)) 0 a
+    takers-shut y = listed-as (filter (takes t g) (leaves t)) (sym (takers-closed t r g (in-code (nodeAt t g .place) (λ d. q (e ∙ d))) (sym f ∙ y)))
+
+    pub takers-walked : {n : ℕ} {a : List ℕ} → c ≡ false → (len : ℕ) → length t ≡ len → Listed (openBelow len t g) n a → Listed (filter (takes t g) (leaves t)) n a
+    takers-walked y len d =
+        listed-as (filter (takes t g) (leaves t)) (ap (λ (k : ℕ). openBelow k t g) (sym d) ∙ sym (takers-below t r g (in-code (nodeAt t g .place) (λ d. q (e ∙ d))) (sym f ∙ y)))

@@ -9,10 +9,12 @@ ghost use Prim.Native.Nat.{ℕ, _≤_, _<_, _+_};
 ghost use lib.Dec.{eqb, leb};
 ghost use lib.ListN.{length, getD, set};
 ghost use Rattle.arrays.specs.Listed.{Listed};
-ghost use Rattle.definition.specs.Lists.{any, elem, filter};
+ghost use Rattle.definition.specs.Lists.{any, filter};
 ghost use Rattle.definition.specs.Records.{isNobody};
-ghost use Rattle.definition.specs.Tree.{Node, Place, nodeAt, newNode, markedAgainst, isContradictory, change, link, linkChain, isLeaf, only, leavesBelow, path};
+ghost use Rattle.definition.specs.Tree.{Node, Place, nodeAt, newNode, markedAgainst, isContradictory, change, link, linkChain, isLeaf, leavesBelow, leaves, path};
 ghost use Rattle.definition.specs.Subtree.{takes};
+ghost use Rattle.definition.proofs.Treed.{Treed};
+ghost use Rattle.definition.proofs.Below.{openBelow};
 ghost use Rattle.tree.specs.Lay.{placeCode, row, lay, Held};
 ghost use Rattle.tree.specs.Chain.{chainOf, Below};
 ghost use Rattle.tree.specs.Sequence.{idAt, countAfter};
@@ -174,15 +176,6 @@ pub fn right_of(tree: &[u16; 4608], x: ProofTreeNodeID) -> ProofTreeNodeID
     ProofTreeNodeID(field(tree, x, 8))
 }
 
-pub fn is_leaf(tree: &[u16; 4608], x: ProofTreeNodeID) -> bool
-    ensures { λ r. ⌜ ((ns : List Node) → length ns ≤ 512 → now (tree .entry) ≡ lay ns → r ≡ isLeaf (nodeAt ns (x .0) .children)) ⌝ }
-{
-    let l = left_of(tree, x);
-    let m = middle_of(tree, x);
-    let r = right_of(tree, x);
-    l.is_none() && (m.is_none() && r.is_none())
-}
-
 pub fn is_contradictory(tree: &[u16; 4608], x: ProofTreeNodeID) -> bool
     ensures { λ r. ⌜ ((ns : List Node) → length ns ≤ 512 → now (tree .entry) ≡ lay ns → r ≡ isContradictory (nodeAt ns (x .0))) ⌝ }
 {
@@ -297,30 +290,6 @@ pub fn link_chain(tree: &mut [u16; 4608], len: usize, y: ProofTreeNodeID, place:
     }
 }
 
-// The path of a leaf holds x.
-pub fn path_contains(
-    tree: &[u16; 4608],
-    len: usize,
-    x: ProofTreeNodeID,
-    leaf: ProofTreeNodeID,
-) -> bool
-    ensures { λ r. ⌜ ((ns : List Node) → length ns ≡ len → len ≤ 512 → now (tree .entry) ≡ lay ns → r ≡ elem (x .0) (path ns (leaf .0))) ⌝ }
-{
-    let mut cur = leaf;
-    let mut k: usize = 0;
-    while k < len {
-        if cur.is_none() {
-            return false;
-        }
-        if x.is(cur) {
-            return true;
-        }
-        cur = parent_of(tree, cur);
-        k += 1;
-    }
-    false
-}
-
 // The path of a leaf holds a contradictory node.
 pub fn path_is_contradictory(tree: &[u16; 4608], len: usize, leaf: ProofTreeNodeID) -> bool
     ensures { λ r. ⌜ ((ns : List Node) → length ns ≡ len → len ≤ 512 → now (tree .entry) ≡ lay ns → r ≡ any (λ x. isContradictory (nodeAt ns x)) (path ns (leaf .0))) ⌝ }
@@ -340,45 +309,23 @@ pub fn path_is_contradictory(tree: &[u16; 4608], len: usize, leaf: ProofTreeNode
     false
 }
 
-// The path of a leaf holds the target and no contradictory node.
-pub fn takes(tree: &[u16; 4608], len: usize, target: ProofTreeNodeID, leaf: ProofTreeNodeID) -> bool
-    ensures { λ r. ⌜ ((ns : List Node) → length ns ≡ len → len ≤ 512 → now (tree .entry) ≡ lay ns → r ≡ takes ns (target .0) (leaf .0)) ⌝ }
+// None of the three is a node.
+fn are_none(l: ProofTreeNodeID, m: ProofTreeNodeID, r: ProofTreeNodeID) -> bool
+    ensures { λ b. ⌜ b ≡ isLeaf (record { left = l .0; middle = m .0; right = r .0 }) ⌝ }
 {
-    path_contains(tree, len, target, leaf) && !path_is_contradictory(tree, len, leaf)
+    l.is_none() && (m.is_none() && r.is_none())
 }
 
-// x, if it is a node.
-fn push_node(x: ProofTreeNodeID, out: &mut [u16; 512], n: usize) -> usize
-    ensures { λ r. ⌜ ((l : List ℕ) → Listed l n (now (out .entry)) → Listed (l ++ only (x .0)) r (now (out .exit))) ⌝ }
+pub fn is_leaf(tree: &[u16; 4608], x: ProofTreeNodeID) -> bool
+    ensures { λ r. ⌜ ((ns : List Node) → length ns ≤ 512 → now (tree .entry) ≡ lay ns → r ≡ isLeaf (nodeAt ns (x .0) .children)) ⌝ }
 {
-    if x.is_none() {
-        return n;
-    }
-    push(out, n, x.0)
+    let l = left_of(tree, x);
+    let m = middle_of(tree, x);
+    let r = right_of(tree, x);
+    are_none(l, m, r)
 }
 
-// x, if it is a node whose path takes what goes below the target.
-fn push_taker(
-    tree: &[u16; 4608],
-    len: usize,
-    target: ProofTreeNodeID,
-    x: ProofTreeNodeID,
-    out: &mut [u16; 512],
-    n: usize,
-) -> usize
-    ensures { λ r. ⌜ ((ns : List Node) (l : List ℕ) → length ns ≡ len → len ≤ 512 → now (tree .entry) ≡ lay ns → Listed l n (now (out .entry))
-        → Listed (l ++ filter (takes ns (target .0)) (only (x .0))) r (now (out .exit))) ⌝ }
-{
-    if x.is_none() {
-        return n;
-    }
-    if takes(tree, len, target, x) {
-        return push(out, n, x.0);
-    }
-    n
-}
-
-// The leaves below x, left, then middle, then right.
+// The leaves at and below x, left, then middle, then right.
 pub fn leaves_below(
     tree: &[u16; 4608],
     x: ProofTreeNodeID,
@@ -388,37 +335,68 @@ pub fn leaves_below(
 ) -> usize
     ensures { λ r. ⌜ ((ns : List Node) (l : List ℕ) → length ns ≤ 512 → now (tree .entry) ≡ lay ns → Listed l n (now (out .entry)) → Listed (l ++ leavesBelow depth ns (x .0)) r (now (out .exit))) ⌝ }
 {
+    if x.is_none() {
+        return n;
+    }
     if depth == 0 {
-        return push_node(x, out, n);
+        return push(out, n, x.0);
     }
-    if is_leaf(tree, x) {
-        return push_node(x, out, n);
+    let l = left_of(tree, x);
+    let m = middle_of(tree, x);
+    let r = right_of(tree, x);
+    if are_none(l, m, r) {
+        return push(out, n, x.0);
     }
-    let a = leaves_below(tree, left_of(tree, x), depth - 1, out, n);
-    let b = leaves_below(tree, middle_of(tree, x), depth - 1, out, a);
-    leaves_below(tree, right_of(tree, x), depth - 1, out, b)
+    let a = leaves_below(tree, l, depth - 1, out, n);
+    let b = leaves_below(tree, m, depth - 1, out, a);
+    leaves_below(tree, r, depth - 1, out, b)
 }
 
-// The leaves below x whose paths take what goes below the target, in the same order.
-pub fn takers_below(
+// The leaves at and below x, in the same order, but none at or below a contradictory node.
+fn takers_below(
     tree: &[u16; 4608],
-    len: usize,
-    target: ProofTreeNodeID,
     x: ProofTreeNodeID,
     depth: usize,
     out: &mut [u16; 512],
     n: usize,
 ) -> usize
-    ensures { λ r. ⌜ ((ns : List Node) (l : List ℕ) → length ns ≡ len → len ≤ 512 → now (tree .entry) ≡ lay ns → Listed l n (now (out .entry))
-        → Listed (l ++ filter (takes ns (target .0)) (leavesBelow depth ns (x .0))) r (now (out .exit))) ⌝ }
+    ensures { λ r. ⌜ ((ns : List Node) (l : List ℕ) → length ns ≤ 512 → now (tree .entry) ≡ lay ns → Listed l n (now (out .entry)) → Listed (l ++ openBelow depth ns (x .0)) r (now (out .exit))) ⌝ }
 {
+    if x.is_none() {
+        return n;
+    }
+    if is_contradictory(tree, x) {
+        return n;
+    }
     if depth == 0 {
-        return push_taker(tree, len, target, x, out, n);
+        return push(out, n, x.0);
     }
-    if is_leaf(tree, x) {
-        return push_taker(tree, len, target, x, out, n);
+    let l = left_of(tree, x);
+    let m = middle_of(tree, x);
+    let r = right_of(tree, x);
+    if are_none(l, m, r) {
+        return push(out, n, x.0);
     }
-    let a = takers_below(tree, len, target, left_of(tree, x), depth - 1, out, n);
-    let b = takers_below(tree, len, target, middle_of(tree, x), depth - 1, out, a);
-    takers_below(tree, len, target, right_of(tree, x), depth - 1, out, b)
+    let a = takers_below(tree, l, depth - 1, out, n);
+    let b = takers_below(tree, m, depth - 1, out, a);
+    takers_below(tree, r, depth - 1, out, b)
+}
+
+// The leaves whose paths hold the target and no contradictory node.
+pub fn takers(
+    tree: &[u16; 4608],
+    len: usize,
+    target: ProofTreeNodeID,
+    out: &mut [u16; 512],
+) -> usize
+    ensures { λ r. ⌜ ((ns : List Node) → Treed ns → length ns ≡ len → len ≤ 512 → now (tree .entry) ≡ lay ns → Listed [] 0 (now (out .entry))
+        → Listed (filter (takes ns (target .0)) (leaves ns)) r (now (out .exit))) ⌝ }
+{
+    if place_of(tree, target) == 65535 {
+        return 0;
+    }
+    if path_is_contradictory(tree, len, target) {
+        return 0;
+    }
+    takers_below(tree, target, len, out, 0)
 }

@@ -51,7 +51,7 @@ returns c = λ F s recs q log b.
     let row = row-as (sym k) (stack-row st blank 0 one) in
     let on = c .before .before .before .before .before .before .before .before .before .before .before .leaves-of .ensures t n [] z (row .leaves) (lv .0) (lv .1) listed-none in
     let r = c .before .before .before .before .reapply-necessity .ensures t [] _ (n ∷ s .necessities) blank [] _ 0 _ _ st one k drawn (b .count) on (paths-fit t n (lv .0) (lv .1) on) h (λ _. listing-start _) in
-    necessity-after F s x recs f q (r .0) (r .1) drawn (b .waiting) (c .place-given .ensures)
+    necessity-after F s x recs f q (r .0) (r .1) drawn (b .waiting) (b .treed) (c .place-given .ensures)
 
 pub apply-necessity-spec : {M : Type 1} → statement M
 apply-necessity-spec =

@@ -44,7 +44,7 @@ returns c = λ F s recs q log b.
     let two = forked-held F s (c .before .before .before .before .before .before .before .before .before .before .before .before .before .before .before .before .before .before .before .before .before .before .before .before .before .args .x .0) recs (c .before .before .before .before .before .before .before .before .before .before .before .before .before .before .before .before .before .before .before .before .before .before .before .before .before .args .f .0) q v (c .before .before .before .before .before .before .before .before .before .before .before .before .before .fork-nodes .ensures t (before-held b)) in
     let fe : forking F s (c .before .before .before .before .before .before .before .before .before .before .before .before .before .before .before .before .before .before .before .before .before .before .before .before .before .args .x .0) recs (c .before .before .before .before .before .before .before .before .before .before .before .before .before .before .before .before .before .before .before .before .before .before .before .before .before .args .f .0) q ≡ record { node = c .before .before .before .before .before .before .before .before .before .before .before .before .before .before .before .before .before .before .before .before .before .before .before .before .before .args .x .0; world = c .before .before .before .before .before .before .before .before .before .before .before .before .before .before .before .before .before .before .before .before .before .before .forked-world .result .0 } = ap (λ (w : ℕ). record { node = c .before .before .before .before .before .before .before .before .before .before .before .before .before .before .before .before .before .before .before .before .before .before .before .before .before .args .x .0; world = w }) (sym v) in
     let r = c .before .before .before .before .reapply-necessity-after-possibility .ensures t _ _ (s .necessities) [] _ (b .necessities) fe drawn (b .count) (lv .0) (lv .1) two (λ _. listing-start _) in
-    possibility-after F s (c .before .before .before .before .before .before .before .before .before .before .before .before .before .before .before .before .before .before .before .before .before .before .before .before .before .args .x .0) recs (c .before .before .before .before .before .before .before .before .before .before .before .before .before .before .before .before .before .before .before .before .before .before .before .before .before .args .f .0) q (b .count) (r .0) (r .1) drawn (b .waiting) (c .place-fork .ensures)
+    possibility-after F s (c .before .before .before .before .before .before .before .before .before .before .before .before .before .before .before .before .before .before .before .before .before .before .before .before .before .args .x .0) recs (c .before .before .before .before .before .before .before .before .before .before .before .before .before .before .before .before .before .before .before .before .before .before .before .before .before .args .f .0) q (b .count) (r .0) (r .1) drawn (b .waiting) (b .treed) (c .place-fork .ensures)
 
 pub apply-possibility-spec : {M : Type 1} → statement M
 apply-possibility-spec =

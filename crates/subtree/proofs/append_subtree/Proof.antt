@@ -5,31 +5,31 @@ use Rattle.subtree.proofs.append_subtree.Statement.{statement}
 use Rattle.subtree.proofs.append_subtree.Tie as tie
 
 returns : tie.Need-returns
-returns c = λ ns q p f w. subtree-full (c .before .args .s) _ ns q (c .if1 .taken) p
+returns c = λ ns q p f w r. subtree-full (c .before .args .s) _ ns q (c .if1 .taken) p
 
 size-requires : tie.Need-size-requires
 size-requires c κs = search needs
 
 returns-2 : tie.Need-returns-2
-returns-2 c = λ ns q p f w. subtree-none (c .before .before .before .args .s) _ ns q (sym (c .before .size .ensures) ∙ c .if2 .taken) p f
+returns-2 c = λ ns q p f w r. subtree-none (c .before .before .before .args .s) _ ns q (sym (c .before .size .ensures) ∙ c .if2 .taken) p f
 
-takers-below-requires : tie.Need-takers-below-requires
-takers-below-requires c κs = search needs
+takers-requires : tie.Need-takers-requires
+takers-requires c κs = search needs
 
 returns-3 : tie.Need-returns-3
-returns-3 c = λ ns q p f w.
+returns-3 c = λ ns q p f w r.
     let a = c .before .before .before .before .before .before .before .args in
     let t = a .target .0 in
-    subtree-many (a .s) t ns q (found-takers t ns p (c .before .before .before .before .before .before .if1 .left) (c .before .takers-below .ensures)) (λ e. c .before .before .before .before .if2 .left (c .before .before .before .before .before .size .ensures ∙ e)) w (c .if3 .taken)
+    subtree-many (a .s) t ns q (found-takers t ns p (c .before .before .before .before .before .before .if1 .left) r (c .before .takers .ensures)) (λ e. c .before .before .before .before .if2 .left (c .before .before .before .before .before .size .ensures ∙ e)) w (c .if3 .taken)
 
 append-on-requires : tie.Need-append-on-requires
 append-on-requires c κs = search needs
 
 returns-4 : tie.Need-returns-4
-returns-4 c = λ ns q p f w.
+returns-4 c = λ ns q p f w r.
     let a = c .before .before .before .before .before .before .before .before .before .before .before .args in
     let t = a .target .0 in
-    subtree-on (a .s) t ns q (found-takers t ns p (c .before .before .before .before .before .before .before .before .before .before .if1 .left) (c .before .before .before .before .before .takers-below .ensures)) (c .before .before .before .before .if3 .left) (λ ls l g. c .append-on .ensures ns q ls p f w l g)
+    subtree-on (a .s) t ns q (found-takers t ns p (c .before .before .before .before .before .before .before .before .before .before .if1 .left) r (c .before .before .before .before .before .takers .ensures)) (c .before .before .before .before .if3 .left) (λ ls l g. c .append-on .ensures ns q ls p f w l g)
 
 pub append-subtree-spec : {M : Type 1} → statement M
-append-subtree-spec = tie.close (tie.spec returns size-requires returns-2 takers-below-requires returns-3 append-on-requires returns-4)
+append-subtree-spec = tie.close (tie.spec returns size-requires returns-2 takers-requires returns-3 append-on-requires returns-4)
