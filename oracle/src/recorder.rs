@@ -1,5 +1,5 @@
 //! Harness: watches every node that a rule or a copy issues, counts steps, aborts beyond 512 identifiers.
-use std::cell::RefCell;
+use std::cell::{Cell, RefCell};
 use crate::formula::Formula;
 use crate::formula::Formula::{And, Atomic, BiImply, Comment, Imply, Necessary, Non, Or, Possible, StrictImply};
 use crate::tree::node::ProofTreeNode;
@@ -16,6 +16,10 @@ pub struct Seen { pub world : u8, pub formula : String, pub spawner : Option<usi
 pub struct Recorder { pub seen : Vec<Option<Seen>>, pub steps : usize, pub last_block : Option<u64> }
 
 thread_local! { static RECORDER : RefCell<Recorder> = RefCell::new(Recorder::default()); }
+thread_local! { static QUIET : Cell<bool> = const { Cell::new(false) }; }
+
+//quiet: of a node only the limit is checked and nothing is kept, so that bench/ times the prover and not the watching
+pub fn set_quiet(quiet : bool) { QUIET.set(quiet); }
 
 //a run that allocates more than `blocks` blocks of memory ends as Slow, at the next step
 pub fn set_work(blocks : u64) { RECORDER.with(|r| r.borrow_mut().last_block = Some(crate::alloc::blocks() + blocks)); }
@@ -38,6 +42,15 @@ pub fn node(node : &ProofTreeNode)
     //more than 512 identifiers were issued: ids are consecutive from 0, and every issued one passes here
     if node.id >= LIMIT { std::panic::resume_unwind(Box::new(Full)); }
 
+    if !QUIET.get() { watch(node); }
+
+    if let Some(child) = &node.left { self::node(child); }
+    if let Some(child) = &node.middle { self::node(child); }
+    if let Some(child) = &node.right { self::node(child); }
+}
+
+fn watch(node : &ProofTreeNode)
+{
     RECORDER.with(|r|
     {
         let mut r = r.borrow_mut();
@@ -48,10 +61,6 @@ pub fn node(node : &ProofTreeNode)
         check_labels(&node.formula, world);
         r.seen[node.id] = Some(Seen { world, formula:text(&node.formula), spawner:node.spawner_node_id, step });
     });
-
-    if let Some(child) = &node.left { self::node(child); }
-    if let Some(child) = &node.middle { self::node(child); }
-    if let Some(child) = &node.right { self::node(child); }
 }
 
 pub fn subtree(subtree : &ProofSubtree)
