@@ -199,7 +199,7 @@ checked-steps : (F : Flags) (s : State) → checkForContradictions F s .steps �
 unfolding checkedForContradictions
 checked-steps F s = checked-both (λ (z : State). z .steps ≡ s .steps) F s refl refl
 
-appended-counted : (F : Flags) (s : State) (taken : Popped) → suc (length (taken .others)) ≡ length (s .waiting) → Counted s → Counted (appended F s taken)
+pub appended-counted : (F : Flags) (s : State) (taken : Popped) → suc (length (taken .others)) ≡ length (s .waiting) → Counted s → Counted (appended F s taken)
 unfolding appended Counted
 appended-counted F s taken e h =
     let r = apply F s (taken .node) in

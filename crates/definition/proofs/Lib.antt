@@ -29,5 +29,6 @@ pub mod Takers
 pub mod Marked
 pub mod Fresh
 pub mod Below
+pub mod Waiting
 pub mod Calls
 pub mod Computed

@@ -149,11 +149,11 @@ checked-same F s x =
 
 -- appended records change nothing of what a formula says and denies: links go to earlier records
 module _ (rs more : List Rec) (wf : WellFormed rs) where
-  rec-append : (i : ℕ) → i < length rs → recAt (rs ++ more) i ≡ recAt rs i
+  pub rec-append : (i : ℕ) → i < length rs → recAt (rs ++ more) i ≡ recAt rs i
   unfolding recAt
   rec-append i h = List·getD-append rs more (made Unknown 0 0) i h
 
-  link-same : (k : Kind) (i : ℕ) → i < length rs → is k (recAt rs i) ≡ true →
+  pub link-same : (k : Kind) (i : ℕ) → i < length rs → is k (recAt rs i) ≡ true →
       Each (λ l. (l < length rs) × (recAt (rs ++ more) l ≡ recAt rs l)) (take (arity k) (recAt rs i .left ∷ recAt rs i .right ∷ []))
   link-same k i h q =
       let r = recAt rs i in

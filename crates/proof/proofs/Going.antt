@@ -25,27 +25,27 @@ unfolding steps
 run-none F s = refl
 
 -- after n of at most 513 steps
-pub record Going (F : Flags) (k : ℕ) (s : State) (n : ℕ) (p : Progress) (fa ta ea ra la va oa wa : List ℕ) : Type 0 where
+pub record Going (F : Flags) (k : ℕ) (s : State) (n : ℕ) (p : Progress) (fa ta ea ra la va oa wa ca : List ℕ) : Type 0 where
   pub now : State
   pub fit : Fit F k now
   pub watch : Watch F now
-  pub kept : Kept now p fa ta ea ra la va oa wa
+  pub kept : Kept now p fa ta ea ra la va oa wa ca
   pub ends : run (513 - n) F now ≡ run 513 F s
 
-module _ {F : Flags} {k : ℕ} {s : State} {n : ℕ} {p : Progress} {fa ta ea ra la va oa wa : List ℕ} where
-  pub going-start : Fit F k s → Watch F s → Kept s p fa ta ea ra la va oa wa → n ≡ 0 → Going F k s n p fa ta ea ra la va oa wa
+module _ {F : Flags} {k : ℕ} {s : State} {n : ℕ} {p : Progress} {fa ta ea ra la va oa wa ca : List ℕ} where
+  pub going-start : Fit F k s → Watch F s → Kept s p fa ta ea ra la va oa wa ca → n ≡ 0 → Going F k s n p fa ta ea ra la va oa wa ca
   going-start f w h e = record { now = s; fit = f; watch = w; kept = h; ends = ap (λ (m : ℕ). run (513 - m) F s) e }
 
-  pub going-stops : (g : Going F k s n p fa ta ea ra la va oa wa) {b : Bool} → b ≡ stops (g .now) → b ≡ true → Kept (run 513 F s) p fa ta ea ra la va oa wa
-  going-stops g e t = subst (λ (z : State). Kept z p fa ta ea ra la va oa wa) (sym (run-stopped (513 - n) F (g .now) (sym e ∙ t)) ∙ g .ends) (g .kept)
+  pub going-stops : (g : Going F k s n p fa ta ea ra la va oa wa ca) {b : Bool} → b ≡ stops (g .now) → b ≡ true → Kept (run 513 F s) p fa ta ea ra la va oa wa ca
+  going-stops g e t = subst (λ (z : State). Kept z p fa ta ea ra la va oa wa ca) (sym (run-stopped (513 - n) F (g .now) (sym e ∙ t)) ∙ g .ends) (g .kept)
 
-  pub going-ends : (g : Going F k s n p fa ta ea ra la va oa wa) → 513 ≤ n → Kept (run 513 F s) p fa ta ea ra la va oa wa
+  pub going-ends : (g : Going F k s n p fa ta ea ra la va oa wa ca) → 513 ≤ n → Kept (run 513 F s) p fa ta ea ra la va oa wa ca
   going-ends g h =
       let e : 513 - n ≡ 0 = omega (arith, h) in
-      subst (λ (z : State). Kept z p fa ta ea ra la va oa wa) (sym (run-none F (g .now)) ∙ ap (λ (m : ℕ). run m F (g .now)) (sym e) ∙ g .ends) (g .kept)
+      subst (λ (z : State). Kept z p fa ta ea ra la va oa wa ca) (sym (run-none F (g .now)) ∙ ap (λ (m : ℕ). run m F (g .now)) (sym e) ∙ g .ends) (g .kept)
 
-  pub going-next : (g : Going F k s n p fa ta ea ra la va oa wa) → n < 513 → stops (g .now) ≡ false →
-      {q : Progress} {fb tb eb rb lb vb ob wb : List ℕ} → Kept (step F (g .now)) q fb tb eb rb lb vb ob wb → Going F k s (n + 1) q fb tb eb rb lb vb ob wb
+  pub going-next : (g : Going F k s n p fa ta ea ra la va oa wa ca) → n < 513 → stops (g .now) ≡ false →
+      {q : Progress} {fb tb eb rb lb vb ob wb cb : List ℕ} → Kept (step F (g .now)) q fb tb eb rb lb vb ob wb cb → Going F k s (n + 1) q fb tb eb rb lb vb ob wb cb
   going-next g h e next =
       let d : 513 - n ≡ suc (513 - (n + 1)) = omega (arith, h) in
       record {

@@ -1,15 +1,16 @@
 -- One step: the node taken, its rule applied and placed, the contradictions checked.
-use Prim.Native.Nat.{ℕ, suc, _<_, _≤_}
+use Prim.Native.Nat.{ℕ, suc, _<_, _≤_, _+_}
 use mathlib.Core.Path.{_≡_, refl, sym, ap, _∙_, subst}
 use mathlib.Core.Bool.{Bool, true, false}
-use mathlib.Core.List.{List, [], _∷_, _++_}
+use mathlib.Core.List.{List, [], _∷_, _++_, map}
 use mathlib.Core.Option.{Option, none, some}
 use native.Mathlib.Omega.{arith}
 use lib.Dec.{leb}
 use borrow.Author.Tests.{leb-true, leb-false}
 use lib.ListN.{length, length-append}
 use Rattle.arrays.specs.Listed.{Listed}
-use Rattle.definition.specs.Lists.{empty}
+use Rattle.arrays.proofs.Listed.{listed-fits}
+use Rattle.definition.specs.Lists.{Each, empty}
 use Rattle.definition.specs.Flags.{Flags}
 use Rattle.definition.specs.Records.{Rec}
 use Rattle.definition.specs.Graph.{Graph}
@@ -20,14 +21,15 @@ use Rattle.definition.specs.Queue as D
 use Rattle.definition.specs.Run
 use Rattle.definition.specs.Run.{State, applyHere, applyPossibility, applyNecessity, applyRule, apply, checkedForContradictions, checkForContradictions, appended, stepBy, step, ended, stops}
 use Rattle.definition.proofs.Lists.{true-false, or-left, or-right}
-use Rattle.definition.proofs.Count.{Counted, checked-both, pop-some}
+use Rattle.definition.proofs.Count.{Counted, checked-both, pop-some, Out, pop-out, appended-counted}
+use Rattle.definition.proofs.Waiting.{queued, classes-appended, classes-checked}
 use Rattle.definition.proofs.Priest.{made-two}
 use Rattle.definition.proofs.Ready.{Fit, Ready, ready}
 use Rattle.definition.proofs.Fresh.{Since, Watch, since-step}
 use Rattle.formula.specs.Recorded.{Recorded}
 use Rattle.formula.proofs.Recorded.{recorded-fits}
 use Rattle.graph.specs.Drawn.{Drawn}
-use Rattle.tree.specs.Lay.{Held, held, tooMany}
+use Rattle.tree.specs.Lay.{Held, held, tooMany, lay}
 use Rattle.tree.specs.declared.ProofTreeNodeID.{ProofTreeNodeID}
 use Rattle.tree.proofs.Nodes.{held-ok}
 use Rattle.queue.specs.declared.Popped.{Popped}
@@ -48,7 +50,7 @@ held-over : {ns : List Node} {len : ℕ} {a : List ℕ} → Held ns len a → 51
 held-over (held b e q) h = absurd (omega arith)
 held-over (tooMany b e) h = e
 
-pub kept-laid : {s : State} {p : Progress} {fa ta ea ra la va oa wa : List ℕ} → Kept s p fa ta ea ra la va oa wa → length (s .nodes) ≤ 512 → Laid s p fa ta ea ra la va oa wa
+pub kept-laid : {s : State} {p : Progress} {fa ta ea ra la va oa wa ca : List ℕ} → Kept s p fa ta ea ra la va oa wa ca → length (s .nodes) ≤ 512 → Laid s p fa ta ea ra la va oa wa ca
 kept-laid (kept k) h = k
 kept-laid (full a b) h = absurd (omega arith)
 
@@ -100,30 +102,34 @@ checked-alike F s =
     checked-both (Alike s) F s (record { formulas = refl; graph = refl; necessities = refl; waiting = refl; steps = refl })
     (record { formulas = refl; graph = refl; necessities = refl; waiting = refl; steps = refl })
 
-pub laid-fits : {s : State} {p : Progress} {fa ta ea ra la va oa wa : List ℕ} → Laid s p fa ta ea ra la va oa wa → p .nodes ≤ 512
+pub laid-fits : {s : State} {p : Progress} {fa ta ea ra la va oa wa ca : List ℕ} → Laid s p fa ta ea ra la va oa wa ca → p .nodes ≤ 512
 laid-fits l = omega (arith, l .room, l .count)
 
 -- a state whose contradictions are checked, in arrays: its nodes and what is proved, and the rest as it was
-pub checked-laid : (F : Flags) (s : State) {p : Progress} {fa ta ea ra la va oa wa : List ℕ} →
-    Recorded (s .formulas) (p .formulas) fa → Drawn (s .graph) (p .worlds) ea → Stack (s .necessities) (p .necessities) oa ra la va → Listed (s .waiting) (p .waiting) wa → p .steps ≡ s .steps →
-    Held (checkForContradictions F s .nodes) (p .nodes) ta → p .proved ≡ checkForContradictions F s .proved → p .nodes ≤ 512 → Laid (checkForContradictions F s) p fa ta ea ra la va oa wa
-checked-laid F s {p} {fa} {ta} {ea} {ra} {la} {va} {oa} {wa} r g n w e nodes proved small =
+pub checked-laid : (F : Flags) (s : State) {p : Progress} {fa ta ea ra la va oa wa ca : List ℕ} →
+    Recorded (s .formulas) (p .formulas) fa → Drawn (s .graph) (p .worlds) ea → Stack (s .necessities) (p .necessities) oa ra la va → Listed (s .waiting) (p .waiting) wa → Listed (map (D.getNodePriority (s .formulas) (s .nodes)) (s .waiting)) (p .waiting) ca → p .steps ≡ s .steps →
+    Held (checkForContradictions F s .nodes) (p .nodes) ta → p .proved ≡ checkForContradictions F s .proved → p .nodes ≤ 512 → Laid (checkForContradictions F s) p fa ta ea ra la va oa wa ca
+checked-laid F s {p} {fa} {ta} {ea} {ra} {la} {va} {oa} {wa} {ca} r g n w k e nodes proved small =
     let same = checked-alike F s in
-    let k = held-ok nodes small in
+    let h = held-ok nodes small in
     record {
       formulas = subst (λ (l : List Rec). Recorded l (p .formulas) fa) (same .formulas) r;
-      room = omega (arith, k .0, small);
-      count = k .0;
-      nodes = k .1;
+      room = omega (arith, h .0, small);
+      count = h .0;
+      nodes = h .1;
       graph = subst (λ (x : Graph). Drawn x (p .worlds) ea) (same .graph) g;
       necessities = subst (λ (l : List Necessity). Stack l (p .necessities) oa ra la va) (same .necessities) n;
       waiting = subst (λ (l : List ℕ). Listed l (p .waiting) wa) (same .waiting) w;
+      classes =
+          let z = checkForContradictions F s in
+          subst (λ (l : List ℕ). Listed (map (D.getNodePriority (z .formulas) (z .nodes)) l) (p .waiting) ca) (same .waiting)
+          (subst (λ (l : List ℕ). Listed l (p .waiting) ca) (sym (classes-checked F s (s .waiting))) k);
       proved = proved;
       steps = e ∙ same .steps;
     }
 
 -- the state before the rule
-pub laid-before : {n : ℕ} {s : State} {q : List ℕ} {p : Progress} {fa ta ea ra la va oa wa wb : List ℕ} → Ready s → Laid s p fa ta ea ra la va oa wa → Listed q n wb →
+pub laid-before : {n : ℕ} {s : State} {q : List ℕ} {p : Progress} {fa ta ea ra la va oa wa ca wb : List ℕ} → Ready s → Laid s p fa ta ea ra la va oa wa ca → Listed q n wb →
     Before (record { nodes = p .nodes; waiting = n; worlds = p .worlds; necessities = p .necessities }) ta ea ra la va oa wb s q
 laid-before r l w =
     record {
@@ -150,6 +156,12 @@ counted-as {q} {a = a} e l = subst (λ (v : ℕ). Listed q v a) e l
 pub took : (w : List ℕ) (o : Option D.Popped) (x : ℕ) (q : List ℕ) {n : ℕ} {a : List ℕ} → o ≡ some (record { node = x; others = q }) → length q ≡ n → Listed (afterwards w o) (length (afterwards w o)) a → Listed q n a
 unfolding afterwards
 took w o x q {a = a} e c l = counted-as c (subst (λ (v : Option D.Popped). Listed (afterwards w v) (length (afterwards w v)) a) e l)
+
+-- and their classes
+pub took-classes : (f : ℕ → ℕ) (w : List ℕ) (o : Option D.Popped) (x : ℕ) (q : List ℕ) {n : ℕ} {a : List ℕ} → o ≡ some (record { node = x; others = q }) → length q ≡ n →
+    Listed (map f (afterwards w o)) (length (afterwards w o)) a → Listed (map f q) n a
+unfolding afterwards
+took-classes f w o x q {a = a} e c l = counted-as c (subst (λ (v : Option D.Popped). Listed (map f (afterwards w v)) (length (afterwards w v)) a) e l)
 
 pub expands-as : {rs : List Rec} {g h : ℕ} {e : Expanded} {a : List ℕ} → g ≡ h → Expands rs (expansion rs g) e a → Expands rs (expansion rs h) e a
 expands-as {rs} {e = e} {a = a} d k = subst (λ (v : ℕ). Expands rs (expansion rs v) e a) d k
@@ -185,24 +197,40 @@ module _ (F : Flags) (s : State) (x : ℕ) (q : List ℕ) where
   unfolding appended
   next-nodes h = h .nodes
 
+  next-waiting : {a : Sizes} {tb eb rb lb vb ob wb : List ℕ} → After a tb eb rb lb vb ob wb (apply F s x) (placing s q (apply F s x)) → a .nodes ≤ 512 → Listed (next .waiting) (a .waiting) wb
+  unfolding appended
+  next-waiting h fits = h .rest fits .waiting
+
+  module _ (k : ℕ) (fit : Fit F k s) (o : D.pop (s .formulas) (s .nodes) (s .waiting) ≡ some taken) where
+    out : (suc (length q) ≡ length (s .waiting)) × (Each (λ y. y < length (s .nodes)) (s .waiting) → (x < length (s .nodes)) × Each (λ y. y < length (s .nodes)) q)
+    out = subst (Out (λ y. y < length (s .nodes)) (s .waiting)) o (pop-out (λ y. y < length (s .nodes)) (s .formulas) (s .nodes) (s .waiting))
+
+    others-known : Each (λ y. y < length (s .nodes)) q
+    others-known = out .1 (fit .bounded .known) .1
+
+    next-counted : next .steps + length (next .waiting) ≡ length (next .nodes)
+    unfolding Counted
+    next-counted = appended-counted F s taken (out .0) (fit .bounded .counted)
+
   next-proved : next .proved ≡ s .proved
   unfolding appended
   next-proved = refl
 
-  stepped-laid : {a : Sizes} {n m : ℕ} {proved : Bool} {fb tb tc eb rb lb vb ob wb : List ℕ} → After a tb eb rb lb vb ob wb (apply F s x) (placing s q (apply F s x)) →
-      Recorded (next .formulas) n fb → m ≡ suc (s .steps) → Held (checkForContradictions F next .nodes) (a .nodes) tc → (a .nodes ≤ 512 → proved ≡ checkForContradictions F next .proved) → a .nodes ≤ 512 →
-      Laid (checkForContradictions F next) (record { formulas = n; nodes = a .nodes; worlds = a .worlds; necessities = a .necessities; waiting = a .waiting; steps = m; proved = proved }) fb tc eb rb lb vb ob wb
+  stepped-laid : {a : Sizes} {n m : ℕ} {proved : Bool} {fb tb tc eb rb lb vb ob wb cb : List ℕ} → After a tb eb rb lb vb ob wb (apply F s x) (placing s q (apply F s x)) →
+      Recorded (next .formulas) n fb → m ≡ suc (s .steps) → Held (checkForContradictions F next .nodes) (a .nodes) tc → (a .nodes ≤ 512 → proved ≡ checkForContradictions F next .proved) → a .nodes ≤ 512 → Listed (map (D.getNodePriority (next .formulas) (next .nodes)) (next .waiting)) (a .waiting) cb →
+      Laid (checkForContradictions F next) (record { formulas = n; nodes = a .nodes; worlds = a .worlds; necessities = a .necessities; waiting = a .waiting; steps = m; proved = proved }) fb tc eb rb lb vb ob wb cb
   unfolding appended
-  stepped-laid h r e nodes proved small = let rest = h .rest small in checked-laid F next r (rest .graph) (rest .necessities) (rest .waiting) e nodes (proved small) small
+  stepped-laid h r e nodes proved small classes = let rest = h .rest small in checked-laid F next r (rest .graph) (rest .necessities) (rest .waiting) classes e nodes (proved small) small
 
-  stepped-kept : {a : Sizes} {n m : ℕ} {proved : Bool} {fb tb tc eb rb lb vb ob wb : List ℕ} → After a tb eb rb lb vb ob wb (apply F s x) (placing s q (apply F s x)) →
+  stepped-kept : {a : Sizes} {n m : ℕ} {proved : Bool} {fb tb tc eb rb lb vb ob wb cb : List ℕ} → After a tb eb rb lb vb ob wb (apply F s x) (placing s q (apply F s x)) →
       Recorded (next .formulas) n fb → m ≡ suc (s .steps) → Held (checkForContradictions F next .nodes) (a .nodes) tc → (a .nodes ≤ 512 → proved ≡ checkForContradictions F next .proved) →
-      Kept (checkForContradictions F next) (record { formulas = n; nodes = a .nodes; worlds = a .worlds; necessities = a .necessities; waiting = a .waiting; steps = m; proved = proved }) fb tc eb rb lb vb ob wb
-  stepped-kept {a} {n} {m} {proved} {fb} {tb} {tc} {eb} {rb} {lb} {vb} {ob} {wb} h r e nodes told = go (leb (a .nodes) 512) refl
+      (a .nodes ≤ 512 → Listed (map (D.getNodePriority (next .formulas) (next .nodes)) (next .waiting)) (a .waiting) cb) →
+      Kept (checkForContradictions F next) (record { formulas = n; nodes = a .nodes; worlds = a .worlds; necessities = a .necessities; waiting = a .waiting; steps = m; proved = proved }) fb tc eb rb lb vb ob wb cb
+  stepped-kept {a} {n} {m} {proved} {fb} {tb} {tc} {eb} {rb} {lb} {vb} {ob} {wb} {cb} h r e nodes told classes = go (leb (a .nodes) 512) refl
     where
       go : (b : Bool) → leb (a .nodes) 512 ≡ b →
-          Kept (checkForContradictions F next) (record { formulas = n; nodes = a .nodes; worlds = a .worlds; necessities = a .necessities; waiting = a .waiting; steps = m; proved = proved }) fb tc eb rb lb vb ob wb
-      go true t = kept (stepped-laid h r e nodes told (leb-true (a .nodes) 512 t))
+          Kept (checkForContradictions F next) (record { formulas = n; nodes = a .nodes; worlds = a .worlds; necessities = a .necessities; waiting = a .waiting; steps = m; proved = proved }) fb tc eb rb lb vb ob wb cb
+      go true t = kept (stepped-laid h r e nodes told (leb-true (a .nodes) 512 t) (classes (leb-true (a .nodes) 512 t)))
       go false t = full (leb-false (a .nodes) 512 t) (held-over nodes (leb-false (a .nodes) 512 t))
 
   step-is : D.pop (s .formulas) (s .nodes) (s .waiting) ≡ some taken → checkForContradictions F next ≡ step F s
@@ -210,16 +238,19 @@ module _ (F : Flags) (s : State) (x : ℕ) (q : List ℕ) where
   step-is e = sym (ap (stepBy F s) e)
 
   pub stepped : (k : ℕ) → Fit F k s → Watch F s → stops s ≡ false → D.pop (s .formulas) (s .nodes) (s .waiting) ≡ some taken →
-      {p : Progress} {fa ta ea ra la va oa wa : List ℕ} → Laid s p fa ta ea ra la va oa wa →
+      {p : Progress} {fa ta ea ra la va oa wa ca : List ℕ} → Laid s p fa ta ea ra la va oa wa ca →
       {e : Expanded} {fb : List ℕ} → Expands (s .formulas) (expansion (s .formulas) f) e fb →
       {a : Sizes} {tb eb rb lb vb ob wb : List ℕ} → After a tb eb rb lb vb ob wb (applyRule F s x recs (consequenceOf (e .rule))) (placing s q (applyRule F s x recs (consequenceOf (e .rule)))) →
       {m : ℕ} → (p .steps < 512 → m ≡ suc (p .steps)) →
+      {n : ℕ} {cz cb : List ℕ} → length q ≡ n → Listed (map (D.getNodePriority (s .formulas) (s .nodes)) q) n cz →
+      ((rs : List Rec) (ns : List Node) (q more : List ℕ) → Recorded rs (e .formulas) fb → e .formulas ≤ 1280 → length ns ≤ 512 → tb ≡ lay ns → Listed (q ++ more) (a .waiting) wb → a .waiting ≤ 512 → length q ≡ n →
+      Listed (map (D.getNodePriority rs ns) q) n cz → Listed (map (D.getNodePriority rs ns) (q ++ more)) (a .waiting) cb) →
       {proved : Bool} {tc : List ℕ} →
       ((z : State) → p .proved ≡ z .proved → Recorded (z .formulas) (e .formulas) fb → e .formulas ≤ 1280 → Held (z .nodes) (a .nodes) tb → (F .skip ≡ false → a .nodes ≤ 512 → Since (z .formulas) (z .nodes) (p .nodes)) →
       Held (checkForContradictions F z .nodes) (a .nodes) tc × (a .nodes ≤ 512 → proved ≡ checkForContradictions F z .proved)) →
-      Kept (step F s) (record { formulas = e .formulas; nodes = a .nodes; worlds = a .worlds; necessities = a .necessities; waiting = a .waiting; steps = m; proved = proved }) fb tc eb rb lb vb ob wb
+      Kept (step F s) (record { formulas = e .formulas; nodes = a .nodes; worlds = a .worlds; necessities = a .necessities; waiting = a .waiting; steps = m; proved = proved }) fb tc eb rb lb vb ob wb cb
   unfolding Counted
-  stepped k fit watch st o {p} l {e} {fb} ex {a} {tb} {eb} {rb} {lb} {vb} {ob} {wb} af {m} count {proved} {tc} check =
+  stepped k fit watch st o {p} l {e} {fb} ex {a} {tb} {eb} {rb} {lb} {vb} {ob} {wb} af {m} count {n} {cz} {cb} size known classify {proved} {tc} check =
       let r = ready F k s fit st in
       let small = formulas-fit (r .formulas) (ex .records) in
       let h = next-after small ex af in
@@ -228,8 +259,14 @@ module _ (F : Flags) (s : State) (x : ℕ) (q : List ℕ) where
       let c = check next (l .proved ∙ sym next-proved) rec small nodes (λ e fits. subst (Since (next .formulas) (next .nodes)) (l .count)
       (since-step F k s taken fit st (omega (arith, held-ok nodes fits .0, fits)) (watch e (omega (arith, r .nodes))))) in
       let low : p .steps < 512 = omega (arith, l .steps, fit .bounded .counted, r .nodes, waits) in
-      subst (λ (z : State). Kept z (record { formulas = e .formulas; nodes = a .nodes; worlds = a .worlds; necessities = a .necessities; waiting = a .waiting; steps = m; proved = proved }) fb tc eb rb lb vb ob wb) (step-is o)
-      (stepped-kept h rec (count low ∙ ap suc (l .steps)) (c .0) (c .1))
+      subst (λ (z : State). Kept z (record { formulas = e .formulas; nodes = a .nodes; worlds = a .worlds; necessities = a .necessities; waiting = a .waiting; steps = m; proved = proved }) fb tc eb rb lb vb ob wb cb) (step-is o)
+      (stepped-kept h rec (count low ∙ ap suc (l .steps)) (c .0) (c .1) (λ fits.
+      let w = queued F s taken in
+      let ok = held-ok nodes fits in
+      let put = subst (λ (v : List ℕ). Listed v (a .waiting) wb) (w .1) (next-waiting h fits) in
+      subst (λ (v : List ℕ). Listed (map (D.getNodePriority (next .formulas) (next .nodes)) v) (a .waiting) cb) (sym (w .1))
+      (classify (next .formulas) (next .nodes) q (w .0) rec small (omega (arith, ok .0, fits)) (ok .1) put (listed-fits (next-waiting h fits) (omega (arith, next-counted k fit o, ok .0, fits))) size
+      (subst (λ (v : List ℕ). Listed v n cz) (sym (classes-appended F k s taken fit q (others-known k fit o))) known))))
     where
       filled : (xs : List ℕ) → empty xs ≡ false → 0 < length xs
       filled [] d = true-false d

@@ -32,25 +32,25 @@ listed-empty : (l : List ℕ) (n : ℕ) (a : List ℕ) → Listed l n a → empt
 listed-empty l n a (listed b e q) = empty-count l n e
 listed-empty l n a (tooLong b e) = empty-long l n e b
 
-module _ {s : State} {p : Progress} {fa ta ea ra la va oa wa : List ℕ} where
-  pub stops-full : Kept s p fa ta ea ra la va oa wa → 512 < p .nodes → true ≡ stops s
+module _ {s : State} {p : Progress} {fa ta ea ra la va oa wa ca : List ℕ} where
+  pub stops-full : Kept s p fa ta ea ra la va oa wa ca → 512 < p .nodes → true ≡ stops s
   unfolding stops Run.full
   stops-full (kept k) h = absurd (omega (arith, k .room, k .count))
   stops-full (full a b) h = sym (or-true (ended s) (lt-ltb 512 (length (s .nodes)) b))
 
-  pub stops-by : Kept s p fa ta ea ra la va oa wa → p .nodes ≤ 512 → (p .proved || (eqb (p .waiting) 0 || leb 25 (p .worlds))) ≡ stops s
+  pub stops-by : Kept s p fa ta ea ra la va oa wa ca → p .nodes ≤ 512 → (p .proved || (eqb (p .waiting) 0 || leb 25 (p .worlds))) ≡ stops s
   unfolding stops Run.full ended
   stops-by (kept k) h =
       rw (le-ltb 512 (length (s .nodes)) (k .room), or-false (ended s), k .proved, listed-empty (s .waiting) (p .waiting) wa (k .waiting), k .graph .count) refl
   stops-by (full a b) h = absurd (omega arith)
 
-  pub stops-proved : Kept s p fa ta ea ra la va oa wa → p .nodes ≤ 512 → p .proved ≡ true → true ≡ stops s
+  pub stops-proved : Kept s p fa ta ea ra la va oa wa ca → p .nodes ≤ 512 → p .proved ≡ true → true ≡ stops s
   stops-proved k h e = sym (ap (λ (b : Bool). b || (eqb (p .waiting) 0 || leb 25 (p .worlds))) e) ∙ stops-by k h
 
-  pub stops-idle : Kept s p fa ta ea ra la va oa wa → p .nodes ≤ 512 → p .proved ≡ false → p .waiting ≡ 0 → true ≡ stops s
+  pub stops-idle : Kept s p fa ta ea ra la va oa wa ca → p .nodes ≤ 512 → p .proved ≡ false → p .waiting ≡ 0 → true ≡ stops s
   stops-idle k h e w =
       sym (ap (λ (b : Bool). b || (eqb (p .waiting) 0 || leb 25 (p .worlds))) e ∙ ap (λ (n : ℕ). eqb n 0 || leb 25 (p .worlds)) w) ∙ stops-by k h
 
-  pub stops-late : Kept s p fa ta ea ra la va oa wa → p .nodes ≤ 512 → p .proved ≡ false → p .waiting ≢ 0 → leb 25 (p .worlds) ≡ stops s
+  pub stops-late : Kept s p fa ta ea ra la va oa wa ca → p .nodes ≤ 512 → p .proved ≡ false → p .waiting ≢ 0 → leb 25 (p .worlds) ≡ stops s
   stops-late k h e w =
       sym (ap (λ (b : Bool). b || (eqb (p .waiting) 0 || leb 25 (p .worlds))) e ∙ ap (λ (b : Bool). b || leb 25 (p .worlds)) (ne-eqb (p .waiting) 0 w)) ∙ stops-by k h

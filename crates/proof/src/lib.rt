@@ -6,6 +6,7 @@ use logic::Sizes;
 use logic::apply_necessity;
 use logic::apply_possibility;
 use queue::Popped;
+use queue::classify;
 use queue::pop;
 use rules::Consequence;
 use rules::apply_here;
@@ -49,7 +50,7 @@ pub struct Progress {
 
 // No step is due.
 pub fn stops(p: Progress) -> bool
-    ensures { λ r. ⌜ ((s : State) (formulas tree edges rows leaves visited order wait : List ℕ) → Kept s p formulas tree edges rows leaves visited order wait → r ≡ stops s) ⌝ }
+    ensures { λ r. ⌜ ((s : State) (formulas tree edges rows leaves visited order wait classes : List ℕ) → Kept s p formulas tree edges rows leaves visited order wait classes → r ≡ stops s) ⌝ }
 {
     if 512 < p.nodes {
         return true;
@@ -180,9 +181,9 @@ fn check(
 
 // The state before any step: contradictions are checked once, unless they are skipped.
 pub fn begin(skip: bool, p: Progress, formulas: &[u16; 5120], tree: &mut [u16; 4608]) -> Progress
-    ensures { λ r. ⌜ ((F : Flags) (s : State) (ea ra la va oa wa : List ℕ) → skip ≡ F .skip → p .formulas ≤ 1280 → Since (s .formulas) (s .nodes) 0
-        → Laid s p (now (formulas .entry)) (now (tree .entry)) ea ra la va oa wa
-        → Kept (checkForContradictions F s) r (now (formulas .entry)) (now (tree .exit)) ea ra la va oa wa) ⌝ }
+    ensures { λ r. ⌜ ((F : Flags) (s : State) (ea ra la va oa wa ca : List ℕ) → skip ≡ F .skip → p .formulas ≤ 1280 → Since (s .formulas) (s .nodes) 0
+        → Laid s p (now (formulas .entry)) (now (tree .entry)) ea ra la va oa wa ca
+        → Kept (checkForContradictions F s) r (now (formulas .entry)) (now (tree .exit)) ea ra la va oa wa ca) ⌝ }
 {
     let proved = check(skip, p.proved, formulas, p.formulas, tree, p.nodes, 0);
     Progress {
@@ -209,12 +210,13 @@ pub fn step(
     visited: &mut [u32; 8192],
     order: &mut [u16; 512],
     wait: &mut [u16; 512],
+    classes: &mut [u16; 512],
 ) -> Progress
     ensures { λ r. ⌜ ((F : Flags) (k : ℕ) (s : State) → Flagged F logic skip → Fit F k s → Watch F s → stops s ≡ false
-        → Kept s p (now (formulas .entry)) (now (tree .entry)) (now (edges .entry)) (now (rows .entry)) (now (leaves .entry)) (now (visited .entry)) (now (order .entry)) (now (wait .entry))
-        → Kept (step F s) r (now (formulas .exit)) (now (tree .exit)) (now (edges .exit)) (now (rows .exit)) (now (leaves .exit)) (now (visited .exit)) (now (order .exit)) (now (wait .exit))) ⌝ }
+        → Kept s p (now (formulas .entry)) (now (tree .entry)) (now (edges .entry)) (now (rows .entry)) (now (leaves .entry)) (now (visited .entry)) (now (order .entry)) (now (wait .entry)) (now (classes .entry))
+        → Kept (step F s) r (now (formulas .exit)) (now (tree .exit)) (now (edges .exit)) (now (rows .exit)) (now (leaves .exit)) (now (visited .exit)) (now (order .exit)) (now (wait .exit)) (now (classes .exit))) ⌝ }
 {
-    match pop(formulas, p.formulas, tree, wait, p.waiting) {
+    match pop(wait, classes, p.waiting) {
         Popped::None => p,
         Popped::Node { id, waiting } => {
             let e = expand(formulas, p.formulas, formula_of(tree, id));
@@ -237,6 +239,15 @@ pub fn step(
                 visited,
                 order,
                 wait,
+            );
+            classify(
+                formulas,
+                e.formulas,
+                tree,
+                wait,
+                a.waiting,
+                classes,
+                waiting,
             );
             Progress {
                 formulas: e.formulas,
@@ -264,10 +275,11 @@ pub fn prove(
     visited: &mut [u32; 8192],
     order: &mut [u16; 512],
     wait: &mut [u16; 512],
+    classes: &mut [u16; 512],
 ) -> Progress
     ensures { λ r. ⌜ ((F : Flags) (k : ℕ) (s : State) → Flagged F logic skip → Fit F k s → Watch F s
-        → Kept s begun (now (formulas .entry)) (now (tree .entry)) (now (edges .entry)) (now (rows .entry)) (now (leaves .entry)) (now (visited .entry)) (now (order .entry)) (now (wait .entry))
-        → Kept (run 513 F s) r (now (formulas .exit)) (now (tree .exit)) (now (edges .exit)) (now (rows .exit)) (now (leaves .exit)) (now (visited .exit)) (now (order .exit)) (now (wait .exit))) ⌝ }
+        → Kept s begun (now (formulas .entry)) (now (tree .entry)) (now (edges .entry)) (now (rows .entry)) (now (leaves .entry)) (now (visited .entry)) (now (order .entry)) (now (wait .entry)) (now (classes .entry))
+        → Kept (run 513 F s) r (now (formulas .exit)) (now (tree .exit)) (now (edges .exit)) (now (rows .exit)) (now (leaves .exit)) (now (visited .exit)) (now (order .exit)) (now (wait .exit)) (now (classes .exit))) ⌝ }
 {
     let mut p = begun;
     let mut n: usize = 0;
@@ -287,6 +299,7 @@ pub fn prove(
             visited,
             order,
             wait,
+            classes,
         );
         n += 1;
     }

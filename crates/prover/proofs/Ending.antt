@@ -19,29 +19,29 @@ use Rattle.proof.specs.Kept.{Laid, Kept, kept, full}
 use Rattle.prover.specs.Contract.{trays}
 use Rattle.prover.specs.Parts.{Fits}
 
-module _ {s : State} {p : Progress} {fa ta ea ra la va oa wa : List ℕ} where
-  kept-full : Kept s p fa ta ea ra la va oa wa → 512 < p .nodes → Run.full s ≡ true
+module _ {s : State} {p : Progress} {fa ta ea ra la va oa wa ca : List ℕ} where
+  kept-full : Kept s p fa ta ea ra la va oa wa ca → 512 < p .nodes → Run.full s ≡ true
   unfolding Run.full
   kept-full (kept k) h = absurd (omega (arith, k .room, k .count))
   kept-full (full a b) h = lt-ltb 512 (length (s .nodes)) b
 
-  pub kept-laid : Kept s p fa ta ea ra la va oa wa → p .nodes ≤ 512 → Laid s p fa ta ea ra la va oa wa
+  pub kept-laid : Kept s p fa ta ea ra la va oa wa ca → p .nodes ≤ 512 → Laid s p fa ta ea ra la va oa wa ca
   kept-laid (kept k) h = k
   kept-laid (full a b) h = absurd (omega arith)
 
-  pub laid-ended : Laid s p fa ta ea ra la va oa wa → Run.full s ≡ false
+  pub laid-ended : Laid s p fa ta ea ra la va oa wa ca → Run.full s ≡ false
   unfolding Run.full
   laid-ended l = le-ltb 512 (length (s .nodes)) (l .room)
 
   -- full: refusal 12, and the written lengths zeroed
   module _ (lent : Trays) {n f e : List ℕ} where
-    pub ends-full : Kept s p fa ta ea ra la va oa wa → 512 < p .nodes → n ≡ over (replicate 6144 0) (lent .nodes) → f ≡ over (replicate 7680 0) (lent .formulas) → e ≡ over (replicate 25 0) (lent .edges) →
+    pub ends-full : Kept s p fa ta ea ra la va oa wa ca → 512 < p .nodes → n ≡ over (replicate 6144 0) (lent .nodes) → f ≡ over (replicate 7680 0) (lent .formulas) → e ≡ over (replicate 25 0) (lent .edges) →
         (refusal 12 0 ≡ answerOf (outcomeOfRun s)) × (trays n f e ≡ traysAfter (outcomeOfRun s) lent)
     unfolding outcomeOfRun answerOf traysAfter laidOver zeroTrays
     ends-full k h a b c = rw (kept-full k h, a, b, c) (refl, refl)
 
     -- ended: the verdict, and the trays laid out
-    pub ends-laid : Laid s p fa ta ea ra la va oa wa → Fits s → {i j k m : ℕ} →
+    pub ends-laid : Laid s p fa ta ea ra la va oa wa ca → Fits s → {i j k m : ℕ} →
         n ≡ over (padded nodeTrayLength (concatMap nodeBytes (s .nodes))) (lent .nodes) → f ≡ over (padded formulaTrayLength (concatMap recordBytes (s .formulas))) (lent .formulas) →
         e ≡ over (padded edgeTrayLength (map rowNumber (s .graph .rows))) (lent .edges) →
         (p .nodes ≤ 65535 → i ≡ p .nodes) → (p .formulas ≤ 65535 → j ≡ p .formulas) → (p .worlds ≤ 65535 → k ≡ p .worlds) → (p .steps ≤ 65535 → m ≡ p .steps) →

@@ -143,11 +143,11 @@ module _ (branch : List ℕ) (flags : ℕ) (lent : Trays) where
         low h (inr d) = omega (arith, h, d)
 
     -- begun, run to its end, laid out
-    pub runs : {r : Answer} {left : Trays} {logic : NormalModalLogic} {skip : Bool} {p q : Progress} {fa ta ea ra la va oa wa fb tb eb rb lb vb ob wb : List ℕ} → refused branch flags (lengthsOf lent) ≡ none →
+    pub runs : {r : Answer} {left : Trays} {logic : NormalModalLogic} {skip : Bool} {p q : Progress} {fa ta ea ra la va oa wa ca fb tb eb rb lb vb ob wb cb : List ℕ} → refused branch flags (lengthsOf lent) ≡ none →
         logic ≡ logicOf F → skip ≡ F .skip →
-        (length branch / 6 ≤ 256 → empty (marks rs) ≡ false → length (marks rs) ≤ 64 → Kept (start F rs) p fa ta ea ra la va oa wa) →
-        (Flagged F logic skip → Fit F (length rs) (start F rs) → Watch F (start F rs) → Kept (start F rs) p fa ta ea ra la va oa wa → Kept (run 513 F (start F rs)) q fb tb eb rb lb vb ob wb) →
-        (Kept (final F rs) q fb tb eb rb lb vb ob wb → Ends (final F rs) → Sized lent → (r ≡ answerOf (outcomeOfRun (final F rs))) × (left ≡ traysAfter (outcomeOfRun (final F rs)) lent)) →
+        (length branch / 6 ≤ 256 → empty (marks rs) ≡ false → length (marks rs) ≤ 64 → Kept (start F rs) p fa ta ea ra la va oa wa ca) →
+        (Flagged F logic skip → Fit F (length rs) (start F rs) → Watch F (start F rs) → Kept (start F rs) p fa ta ea ra la va oa wa ca → Kept (run 513 F (start F rs)) q fb tb eb rb lb vb ob wb cb) →
+        (Kept (final F rs) q fb tb eb rb lb vb ob wb cb → Ends (final F rs) → Sized lent → (r ≡ answerOf (outcomeOfRun (final F rs))) × (left ≡ traysAfter (outcomeOfRun (final F rs)) lent)) →
         Contract branch flags lent r left
     unfolding final
     runs e l k begin go finish =

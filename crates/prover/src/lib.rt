@@ -6,6 +6,7 @@ use checks::Checked;
 use checks::check;
 use graph::NormalModalLogic;
 use proof::Progress;
+use queue::classify;
 use trays::clear;
 use trays::clear_edges;
 use trays::write_edges;
@@ -77,14 +78,16 @@ fn begin(
     formulas: &mut [u16; 5120],
     tree: &mut [u16; 4608],
     wait: &mut [u16; 512],
+    classes: &mut [u16; 512],
 ) -> Progress
     ensures { λ r. ⌜ ((F : Flags) (ea ra la va oa : List ℕ) → skip ≡ F .skip → length (now (branch .entry)) / 6 ≤ 256 → empty (marks (decode (now (branch .entry)))) ≡ false → length (marks (decode (now (branch .entry)))) ≤ 64
-        → Recorded [] 0 (now (formulas .entry)) → Held [] 0 (now (tree .entry)) → Listed [] 0 (now (wait .entry)) → Drawn emptyGraph 0 ea → Stack [] 0 oa ra la va
-        → Kept (start F (decode (now (branch .entry)))) r (now (formulas .exit)) (now (tree .exit)) ea ra la va oa (now (wait .exit))) ⌝ }
+        → Recorded [] 0 (now (formulas .entry)) → Held [] 0 (now (tree .entry)) → Listed [] 0 (now (wait .entry)) → Listed [] 0 (now (classes .entry)) → Drawn emptyGraph 0 ea → Stack [] 0 oa ra la va
+        → Kept (start F (decode (now (branch .entry)))) r (now (formulas .exit)) (now (tree .exit)) ea ra la va oa (now (wait .exit)) (now (classes .exit))) ⌝ }
 {
     let count = read_records(branch, formulas);
     let len = begin_tree(formulas, count, tree);
     let waiting = begin_queue(tree, len, wait);
+    classify(formulas, count, tree, wait, waiting, classes, 0);
     let p = Progress {
         formulas: count,
         nodes: len,
@@ -117,7 +120,7 @@ fn finish(
     formulas: &mut [u8],
     edges: &mut [u32],
 ) -> Answer
-    ensures { λ r. ⌜ ((s : State) (ra la va oa wa : List ℕ) → Kept s p (now (table .entry)) (now (tree .entry)) (now (graph .entry)) ra la va oa wa → Ends s
+    ensures { λ r. ⌜ ((s : State) (ra la va oa wa ca : List ℕ) → Kept s p (now (table .entry)) (now (tree .entry)) (now (graph .entry)) ra la va oa wa ca → Ends s
         → Sized (trays (now (nodes .entry)) (now (formulas .entry)) (now (edges .entry)))
         → (said r ≡ answerOf (outcomeOfRun s))
         × (trays (now (nodes .exit)) (now (formulas .exit)) (now (edges .exit)) ≡ traysAfter (outcomeOfRun s) (trays (now (nodes .entry)) (now (formulas .entry)) (now (edges .entry))))) ⌝ }
@@ -157,8 +160,9 @@ fn run(branch: &[u8], flags: u8, nodes: &mut [u8], formulas: &mut [u8], edges: &
     let mut visited = [0u32; 8192];
     let mut order = [0u16; 512];
     let mut wait = [0u16; 512];
+    let mut classes = [0u16; 512];
     let skip = flag(flags, 8);
-    let begun = begin(branch, skip, &mut table, &mut tree, &mut wait);
+    let begun = begin(branch, skip, &mut table, &mut tree, &mut wait, &mut classes);
     let p = proof::prove(
         logic_of(flags),
         skip,
@@ -171,6 +175,7 @@ fn run(branch: &[u8], flags: u8, nodes: &mut [u8], formulas: &mut [u8], edges: &
         &mut visited,
         &mut order,
         &mut wait,
+        &mut classes,
     );
     finish(p, &table, &tree, &graph, nodes, formulas, edges)
 }

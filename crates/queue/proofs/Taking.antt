@@ -1,15 +1,15 @@
 -- The search of the classes, and the node that is taken.
 use Prim.Native.Nat.{ℕ, zero, suc, _+_, _≤_, _<_}
-use mathlib.Core.Path.{_≡_, refl, sym, ap, _∙_}
+use mathlib.Core.Path.{_≡_, refl, sym, ap, _∙_, subst}
 use mathlib.Core.Bool.{Bool, true, false, cond}
-use mathlib.Core.List.{List, [], _∷_, _++_}
+use mathlib.Core.List.{List, [], _∷_, _++_, map}
 use mathlib.Core.Option.{Option, none, some}
 use native.Mathlib.Numerals.{add-one}
 use native.Mathlib.Omega.{arith}
 use borrow.Author.Tests.{lt-ltb, le-ltb, eq-eqb, ne-eqb}
 use lib.Dec.{eqb}
-use lib.ListN.{length, getD, take, drop, drop-of-length-le}
-use lib.Seq.{take-suc, drop-cons}
+use lib.ListN.{length, length-map, getD, take, drop, drop-of-length-le}
+use lib.Seq.{take-suc, take-all, take-at, length-take-le, drop-cons}
 use Rattle.arrays.specs.Data.{without}
 use Rattle.arrays.specs.Listed.{Listed}
 use Rattle.arrays.proofs.Laws.{length-without}
@@ -18,8 +18,6 @@ use Rattle.definition.specs.Lists.{orElse}
 use Rattle.definition.specs.Records.{Rec}
 use Rattle.definition.specs.Tree.{Node}
 use Rattle.definition.specs.Queue as D
-use Rattle.formula.specs.Recorded.{Recorded}
-use Rattle.tree.specs.Lay.{lay}
 use Rattle.queue.specs.declared.Popped.{Popped}
 use Rattle.queue.specs.declared.Popped.the-variants as P
 use Rattle.queue.specs.Taking.{takenAt, answer, afterwards}
@@ -96,22 +94,15 @@ module _ (rs : List Rec) (ns : List Node) (q : List ℕ) where
   unfolding fromPlace
   place-end k i h = ap (λ (o : Option D.Popped). orElse o (fromClass (k + 1))) (first-none (λ x. eqb (D.getNodePriority rs ns x) k) q i h)
 
--- ---- the loops of `first_urgent`: the data that the arrays hold
-pub record Laid (rs : List Rec) (ns : List Node) (q formulas : List ℕ) (count : ℕ) (tree wait : List ℕ) (n : ℕ) : Type 0 where
-  pub recorded : Recorded rs count formulas
-  pub known : count ≤ 1280
-  pub few : length ns ≤ 512
-  pub laid : tree ≡ lay ns
-  pub listed : Listed q n wait
-  pub fits : n ≤ 512
+-- ---- the loops of `first_urgent`: the classes are listed
+get-map : (f : ℕ → ℕ) (q : List ℕ) (i : ℕ) → i < length q → getD (map f q) i 0 ≡ f (getD q i 0)
+get-map f [] i h = absurd (omega arith)
+get-map f (x ∷ q) zero h = refl
+get-map f (x ∷ q) (suc i) h = get-map f q i (omega arith)
 
-pub laid-all : {rs : List Rec} {ns : List Node} {q formulas : List ℕ} {count : ℕ} {tree wait : List ℕ} {n : ℕ} → Recorded rs count formulas → count ≤ 1280 → length ns ≤ 512 → tree ≡ lay ns →
-    Listed q n wait → n ≤ 512 → Laid rs ns q formulas count tree wait n
-laid-all f k h e l g = record { recorded = f; known = k; few = h; laid = e; listed = l; fits = g }
-
-module _ {rs : List Rec} {ns : List Node} {q formulas : List ℕ} {count : ℕ} {tree wait : List ℕ} {n : ℕ} (d : Laid rs ns q formulas count tree wait n) where
-  many : length q ≡ n
-  many = listed-count (d .listed) (d .fits)
+module _ (rs : List Rec) (ns : List Node) (q : List ℕ) {n : ℕ} {a : List ℕ} (l : Listed (map (D.getNodePriority rs ns) q) n a) (g : n ≤ 512) where
+  pub many : length q ≡ n
+  many = sym (length-map q (D.getNodePriority rs ns)) ∙ listed-count l g
 
   pub search-begin : (k : ℕ) → k < 3 → fromClass rs ns q k ≡ D.pop rs ns q → fromPlace rs ns q k 0 ≡ D.pop rs ns q
   search-begin k h e = sym (class-step rs ns q k h) ∙ e
@@ -122,12 +113,10 @@ module _ {rs : List Rec} {ns : List Node} {q formulas : List ℕ} {count : ℕ} 
   pub search-end : (k : ℕ) → k ≡ 3 → fromClass rs ns q k ≡ D.pop rs ns q → D.pop rs ns q ≡ takenAt q n
   search-end k z e = sym e ∙ class-end rs ns q k z ∙ sym (taken-out q n (omega (arith, many)))
 
-  -- the node x at position i has class v
-  module _ (k i x v : ℕ) (h : i < n) (e : fromPlace rs ns q k i ≡ D.pop rs ns q)
-      (read : (l : List ℕ) (m : ℕ) → Listed l m wait → m ≤ 512 → i < m → x ≡ getD l i 0)
-      (class : (rs : List Rec) (ns : List Node) → Recorded rs count formulas → count ≤ 1280 → length ns ≤ 512 → tree ≡ lay ns → v ≡ D.getNodePriority rs ns x) where
+  -- v is read at position i
+  module _ (k i v : ℕ) (h : i < n) (e : fromPlace rs ns q k i ≡ D.pop rs ns q) (read : (l : List ℕ) (m : ℕ) → Listed l m a → m ≤ 512 → i < m → v ≡ getD l i 0) where
     seen : v ≡ D.getNodePriority rs ns (getD q i 0)
-    seen = class rs ns (d .recorded) (d .known) (d .few) (d .laid) ∙ ap (D.getNodePriority rs ns) (read q n (d .listed) (d .fits) h)
+    seen = read _ n l g h ∙ get-map (D.getNodePriority rs ns) q i (omega (arith, many, h))
 
     pub search-hit : v ≡ k → D.pop rs ns q ≡ takenAt q i
     search-hit z = sym e ∙ place-hit rs ns q k i (omega (arith, many)) (sym seen ∙ z)
@@ -135,23 +124,65 @@ module _ {rs : List Rec} {ns : List Node} {q formulas : List ℕ} {count : ℕ} 
     pub search-miss : (v ≡ k → ⊥) → fromPlace rs ns q k (i + 1) ≡ D.pop rs ns q
     search-miss z = sym (place-miss rs ns q k i (omega (arith, many)) (λ y. z (seen ∙ y))) ∙ e
 
--- ---- the answer of `pop`
--- what `pop` promises of its answer r and of the array w at exit
-abbrev pub Answered : List ℕ → Option D.Popped → Popped → List ℕ → Type 0
-Answered q o r w = (r ≡ answer o) × Listed (afterwards q o) (length (afterwards q o)) w
+-- ---- the loop of `classify`: those before position i are listed
+take-map : (f : ℕ → ℕ) (i : ℕ) (q : List ℕ) → map f (take i q) ≡ take i (map f q)
+take-map f zero q = refl
+take-map f (suc i) [] = refl
+take-map f (suc i) (x ∷ q) = ap (λ (l : List ℕ). f x ∷ l) (take-map f i q)
 
-module _ {q : List ℕ} {n : ℕ} {a : List ℕ} (p : Listed q n a) (g : n ≤ 512) (o : Option D.Popped) (at : ℕ) (e : o ≡ takenAt q at) where
-  pub pop-none : n ≤ at → Answered q o P.None a
+drop-map : (f : ℕ → ℕ) (i : ℕ) (q : List ℕ) → map f (drop i q) ≡ drop i (map f q)
+drop-map f zero q = refl
+drop-map f (suc i) [] = refl
+drop-map f (suc i) (x ∷ q) = drop-map f i q
+
+map-append : (f : ℕ → ℕ) (xs ys : List ℕ) → map f (xs ++ ys) ≡ map f xs ++ map f ys
+map-append f [] ys = refl
+map-append f (x ∷ xs) ys = ap (λ (l : List ℕ). f x ∷ l) (map-append f xs ys)
+
+pub classing-start : (f : ℕ → ℕ) (q more : List ℕ) (m : ℕ) {a : List ℕ} → length q ≡ m → Listed (map f q) m a → Listed (map f (take m (q ++ more))) m a
+classing-start f q more m {a} e l = subst (λ (v : List ℕ). Listed (map f v) m a) (sym (take-at q more m e)) l
+
+pub classing-next : (f : ℕ → ℕ) (q : List ℕ) (i x v : ℕ) {a b : List ℕ} {n : ℕ} → i < length q → i < 512 → Listed (map f (take i q)) i a → x ≡ getD q i 0 → v ≡ f x →
+    ((l : List ℕ) → Listed l i a → Listed (l ++ (v ∷ [])) n b) → Listed (map f (take (i + 1) q)) (i + 1) b
+classing-next f q i x v {a} {b} {n} h low l e z put =
+    let got = put (map f (take i q)) l in
+    let s : map f (take i q) ++ (v ∷ []) ≡ map f (take (i + 1) q) =
+    sym (ap (map f) (ap (λ (j : ℕ). take j q) (add-one i) ∙ take-suc q i 0 h) ∙ map-append f (take i q) (getD q i 0 ∷ []) ∙ ap (λ (w : ℕ). map f (take i q) ++ (w ∷ [])) (sym (z ∙ ap f e))) in
+    let size : length (map f (take (i + 1) q)) ≡ i + 1 = length-map (take (i + 1) q) f ∙ length-take-le (i + 1) q (omega arith) in
+    counted (subst (λ (w : List ℕ). Listed w n b) s got) size
+  where
+    counted : Listed (map f (take (i + 1) q)) n b → length (map f (take (i + 1) q)) ≡ i + 1 → Listed (map f (take (i + 1) q)) (i + 1) b
+    counted k size = subst (λ (c : ℕ). Listed (map f (take (i + 1) q)) c b) (sym (listed-count k (listed-fits k (omega arith))) ∙ size) k
+
+pub classing-end : (f : ℕ → ℕ) (q : List ℕ) (i n : ℕ) {a : List ℕ} → length q ≡ n → n ≤ i → i ≤ n → Listed (map f (take i q)) i a → Listed (map f q) n a
+classing-end f q i n {a} e h k l =
+    let z : i ≡ n = omega arith in
+    subst (λ (c : ℕ). Listed (map f q) c a) z (subst (λ (v : List ℕ). Listed (map f v) i a) (take-all i q (omega arith)) l)
+
+-- ---- the answer of `pop`
+-- what `pop` promises of its answer r and of the arrays w and c at exit
+abbrev pub Answered : (ℕ → ℕ) → List ℕ → Option D.Popped → Popped → List ℕ → List ℕ → Type 0
+Answered f q o r w c = (r ≡ answer o) × Listed (afterwards q o) (length (afterwards q o)) w × Listed (map f (afterwards q o)) (length (afterwards q o)) c
+
+without-map : (f : ℕ → ℕ) (q : List ℕ) (i : ℕ) → without (map f q) i ≡ map f (without q i)
+unfolding without
+without-map f q i = sym (map-append f (take i q) (drop (suc i) q) ∙ rw (take-map f i q, drop-map f (suc i) q))
+
+module _ (f : ℕ → ℕ) (q : List ℕ) {n : ℕ} {a b : List ℕ} (p : Listed q n a) (k : Listed (map f q) n b) (g : n ≤ 512) (o : Option D.Popped) (at : ℕ) (e : o ≡ takenAt q at) where
+  pub pop-none : n ≤ at → Answered f q o P.None a b
   unfolding answer afterwards
   pop-none h =
       let z : o ≡ none = e ∙ taken-out q at (omega (arith, listed-count p g)) in
-      rw (z, listed-count p g) (refl, p)
+      rw (z, listed-count p g) (refl, p, k)
 
-  pub pop-some : (x m : ℕ) (w : List ℕ) → at < n → x ≡ getD q at 0 → Listed (without q at) m w → Answered q o (P.Node (record { 0 = x }) m) w
+  pub pop-some : (x m m′ : ℕ) (w c : List ℕ) → at < n → x ≡ getD q at 0 → Listed (without q at) m w → Listed (without (map f q) at) m′ c → Answered f q o (P.Node (record { 0 = x }) m) w c
   unfolding answer afterwards
-  pop-some x m w h y l =
-      let c : length q ≡ n = listed-count p g in
-      let s : length (without q at) + 1 ≡ length q = length-without q at (omega arith) in
+  pop-some x m m′ w c h y l r =
+      let s : length q ≡ n = listed-count p g in
+      let t : length (without q at) + 1 ≡ length q = length-without q at (omega arith) in
       let z : o ≡ some (record { node = getD q at 0; others = without q at }) = e ∙ taken-in q at (omega arith) in
-      let k : length (without q at) ≡ m = listed-count l (listed-fits l (omega arith)) in
-      rw (z, k, y) (refl, l)
+      let d : length (without q at) ≡ m = listed-count l (listed-fits l (omega arith)) in
+      let r′ : Listed (map f (without q at)) m′ c = subst (λ (v : List ℕ). Listed v m′ c) (without-map f q at) r in
+      let size : length (map f (without q at)) ≡ length (without q at) = length-map (without q at) f in
+      let d′ : m′ ≡ m = sym (listed-count r′ (listed-fits r′ (omega arith))) ∙ size ∙ d in
+      rw (z, d, y) (refl, l, subst (λ (v : ℕ). Listed (map f (without q at)) v c) d′ r′)

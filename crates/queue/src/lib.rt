@@ -10,7 +10,7 @@ use tree::left_of;
 use tree::middle_of;
 use tree::right_of;
 ghost use mathlib.Core.Path.{_≡_};
-ghost use mathlib.Core.List.{List};
+ghost use mathlib.Core.List.{List, _++_, map};
 ghost use Prim.Native.Nat.{ℕ, _≤_};
 ghost use lib.ListN.{length};
 ghost use Rattle.arrays.specs.Listed.{Listed};
@@ -41,16 +41,32 @@ pub fn get_node_priority(
     priority_of(formulas, count, formula_of(tree, x))
 }
 
-// The position of the first waiting node of the most urgent class; n where none waits.
-pub fn first_urgent(
+// The classes of the waiting nodes, listed from position m on; those before it are listed.
+pub fn classify(
     formulas: &[u16; 5120],
     count: usize,
     tree: &[u16; 4608],
     wait: &[u16; 512],
     n: usize,
-) -> usize
-    ensures { λ r. ⌜ ((rs : List Rec) (ns : List Node) (q : List ℕ) → Recorded rs count (now (formulas .entry)) → count ≤ 1280 → length ns ≤ 512 → now (tree .entry) ≡ lay ns
-        → Listed q n (now (wait .entry)) → n ≤ 512 → pop rs ns q ≡ takenAt q r) ⌝ }
+    classes: &mut [u16; 512],
+    m: usize,
+)
+    ensures { λ r. ⌜ ((rs : List Rec) (ns : List Node) (q more : List ℕ) → Recorded rs count (now (formulas .entry)) → count ≤ 1280 → length ns ≤ 512 → now (tree .entry) ≡ lay ns
+        → Listed (q ++ more) n (now (wait .entry)) → n ≤ 512 → length q ≡ m → Listed (map (getNodePriority rs ns) q) m (now (classes .entry))
+        → Listed (map (getNodePriority rs ns) (q ++ more)) n (now (classes .exit))) ⌝ }
+{
+    let mut i = m;
+    while i < n {
+        let x = ProofTreeNodeID(nth(wait, i));
+        let class = get_node_priority(formulas, count, tree, x);
+        push(classes, i, class);
+        i += 1;
+    }
+}
+
+// The position of the first waiting node of the most urgent class; n where none waits.
+pub fn first_urgent(classes: &[u16; 512], n: usize) -> usize
+    ensures { λ r. ⌜ ((rs : List Rec) (ns : List Node) (q : List ℕ) → Listed (map (getNodePriority rs ns) q) n (now (classes .entry)) → n ≤ 512 → pop rs ns q ≡ takenAt q r) ⌝ }
 {
     let mut class: u16 = 0;
     'classes: loop {
@@ -59,8 +75,7 @@ pub fn first_urgent(
         }
         let mut i: usize = 0;
         while i < n {
-            let x = ProofTreeNodeID(nth(wait, i));
-            if get_node_priority(formulas, count, tree, x) == class {
+            if nth(classes, i) == class {
                 break 'classes i;
             }
             i += 1;
@@ -69,24 +84,19 @@ pub fn first_urgent(
     }
 }
 
-// Takes the first waiting node of the most urgent class out.
-pub fn pop(
-    formulas: &[u16; 5120],
-    count: usize,
-    tree: &[u16; 4608],
-    wait: &mut [u16; 512],
-    n: usize,
-) -> Popped
-    ensures { λ r. ⌜ ((rs : List Rec) (ns : List Node) (q : List ℕ) → Recorded rs count (now (formulas .entry)) → count ≤ 1280 → length ns ≤ 512 → now (tree .entry) ≡ lay ns
-        → Listed q n (now (wait .entry)) → n ≤ 512
-        → (r ≡ answer (pop rs ns q)) × Listed (afterwards q (pop rs ns q)) (length (afterwards q (pop rs ns q))) (now (wait .exit))) ⌝ }
+// Takes the first waiting node of the most urgent class out, and its class.
+pub fn pop(wait: &mut [u16; 512], classes: &mut [u16; 512], n: usize) -> Popped
+    ensures { λ r. ⌜ ((rs : List Rec) (ns : List Node) (q : List ℕ) → Listed q n (now (wait .entry)) → Listed (map (getNodePriority rs ns) q) n (now (classes .entry)) → n ≤ 512
+        → (r ≡ answer (pop rs ns q)) × Listed (afterwards q (pop rs ns q)) (length (afterwards q (pop rs ns q))) (now (wait .exit))
+        × Listed (map (getNodePriority rs ns) (afterwards q (pop rs ns q))) (length (afterwards q (pop rs ns q))) (now (classes .exit))) ⌝ }
 {
-    let at = first_urgent(formulas, count, tree, wait, n);
+    let at = first_urgent(classes, n);
     if n <= at {
         return Popped::None;
     }
     let id = ProofTreeNodeID(nth(wait, at));
     let waiting = remove(wait, n, at);
+    remove(classes, n, at);
     Popped::Node { id, waiting }
 }
 

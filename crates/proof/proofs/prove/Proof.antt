@@ -12,13 +12,13 @@ use Rattle.proof.proofs.prove.Statement.{statement}
 use Rattle.proof.proofs.prove.Tie as tie
 
 abbrev Inv-loop : tie.InvT-loop
-Inv-loop logic skip formulas₀ tree₀ edges₀ rows₀ leaves₀ visited₀ order₀ wait₀ p₀ n₀ formulas tree edges rows leaves visited order wait p n =
+Inv-loop logic skip formulas₀ tree₀ edges₀ rows₀ leaves₀ visited₀ order₀ wait₀ classes₀ p₀ n₀ formulas tree edges rows leaves visited order wait classes p n =
     (n ≤ 513) ×
-    ((F : Flags) (k : ℕ) (s : State) → Flagged F logic skip → Fit F k s → Watch F s → Kept s p₀ formulas₀ tree₀ edges₀ rows₀ leaves₀ visited₀ order₀ wait₀ →
-    Going F k s n p formulas tree edges rows leaves visited order wait)
+    ((F : Flags) (k : ℕ) (s : State) → Flagged F logic skip → Fit F k s → Watch F s → Kept s p₀ formulas₀ tree₀ edges₀ rows₀ leaves₀ visited₀ order₀ wait₀ classes₀ →
+    Going F k s n p formulas tree edges rows leaves visited order wait classes)
 
 abbrev μ-loop : tie.MeasureT-loop
-μ-loop logic skip formulas₀ tree₀ edges₀ rows₀ leaves₀ visited₀ order₀ wait₀ p₀ n₀ formulas tree edges rows leaves visited order wait p n = 513 - n
+μ-loop logic skip formulas₀ tree₀ edges₀ rows₀ leaves₀ visited₀ order₀ wait₀ classes₀ p₀ n₀ formulas tree edges rows leaves visited order wait classes p n = 513 - n
 
 loop-holds : tie.Need-loop-holds Inv-loop μ-loop
 loop-holds c = (search needs, λ F k s l f w h. going-start f w h (omega arith))
@@ -29,7 +29,7 @@ stops-requires c κs = search needs
 returns : tie.Need-returns Inv-loop μ-loop
 returns c = λ F k s l f w h.
     let g = c .before .before .before .loop .inv .1 F k s l f w h in
-    going-stops g (c .before .stops .ensures (g .now) _ _ _ _ _ _ _ _ (g .kept)) (c .if1 .taken)
+    going-stops g (c .before .stops .ensures (g .now) _ _ _ _ _ _ _ _ _ (g .kept)) (c .if1 .taken)
 
 step-requires : tie.Need-step-requires Inv-loop μ-loop
 step-requires c κs = search needs
@@ -44,9 +44,9 @@ loop-again : tie.Need-loop-again Inv-loop μ-loop
 loop-again c = (
   search needs,
   λ F k s l f w h.
-      let g = c .before .before .before .before .before .before .before .before .before .before .before .before .loop .inv .1 F k s l f w h in
-      let e = sym (c .before .before .before .before .before .before .before .before .before .before .stops .ensures (g .now) _ _ _ _ _ _ _ _ (g .kept)) ∙ c .before .before .before .before .before .before .before .before .before .if1 .left in
-      going-next g (c .before .before .before .before .before .before .before .before .before .before .before .loop-test .taken) e (c .step .ensures F k (g .now) l (g .fit) (g .watch) e (g .kept)),
+      let g = c .before .before .before .before .before .before .before .before .before .before .before .before .before .loop .inv .1 F k s l f w h in
+      let e = sym (c .before .before .before .before .before .before .before .before .before .before .before .stops .ensures (g .now) _ _ _ _ _ _ _ _ _ (g .kept)) ∙ c .before .before .before .before .before .before .before .before .before .before .if1 .left in
+      going-next g (c .before .before .before .before .before .before .before .before .before .before .before .before .loop-test .taken) e (c .step .ensures F k (g .now) l (g .fit) (g .watch) e (g .kept)),
 )
 
 returns-2 : tie.Need-returns-2 Inv-loop μ-loop

@@ -1,3 +1,5 @@
+use mathlib.Core.Path.{refl}
+use mathlib.Core.List.{[]}
 use Rattle.definition.specs.Records.{decode}
 use Rattle.definition.specs.Run.{begun}
 use Rattle.prover.proofs.Beginning.{few-records, started}
@@ -14,15 +16,19 @@ begin-tree-requires c κs = search needs
 begin-queue-requires : tie.Need-begin-queue-requires
 begin-queue-requires c κs = search needs
 
+classify-requires : tie.Need-classify-requires
+classify-requires c κs = search needs
+
 begin-requires : tie.Need-begin-requires
 begin-requires c κs = search needs
 
 returns : tie.Need-returns
-returns c = λ F ea ra la va oa e small some few f t w g n.
+returns c = λ F ea ra la va oa e small some few f t w k g n.
     let rs = decode _ in
-    let r = c .before .before .before .before .before .before .before .before .before .read-records .ensures small f in
-    started rs some few F (few-records _ small) g n r (λ fits. c .before .before .before .before .before .before .begin-tree .ensures rs r fits t) (λ l low same. c .before .before .before .begin-queue .ensures rs l low same w)
-    (λ fits new laid. c .begin .ensures F (begun rs) ea ra la va oa _ e fits new laid)
+    let r = c .before .before .before .before .before .before .before .before .before .before .before .before .before .before .read-records .ensures small f in
+    started rs some few F (few-records _ small) g n r (λ fits. c .before .before .before .before .before .before .before .before .before .before .before .begin-tree .ensures rs r fits t) (λ l low same. c .before .before .before .before .before .before .before .before .begin-queue .ensures rs l low same w)
+    (λ ns q fits short same l low. c .before .before .before .classify .ensures rs ns [] q r fits short same l low refl k)
+    (λ fits new laid. c .begin .ensures F (begun rs) ea ra la va oa _ _ e fits new laid)
 
 pub begin-spec : {M : Type 1} → statement M
 begin-spec =
@@ -31,5 +37,6 @@ begin-spec =
     read-records-requires
     begin-tree-requires
     begin-queue-requires
+    classify-requires
     begin-requires
     returns)

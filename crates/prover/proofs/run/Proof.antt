@@ -37,10 +37,10 @@ same-length-3 c = search needs
 returns : tie.Need-returns
 unfolding flagsOf
 returns c = λ e.
-    runs _ _ _ (accepted _ _ _ e) e (c .before .before .before .before .before .before .before .before .before .before .before .before .before .before .before .before .before .before .before .before .before .before .logic-of .ensures) (c .before .before .before .before .before .before .before .before .before .before .before .before .before .before .before .before .before .before .before .before .before .before .before .before .before .before .before .flag .ensures)
-    (λ small some few. c .before .before .before .before .before .before .before .before .before .before .before .before .before .before .before .before .before .before .before .before .before .before .before .begin .ensures _ _ _ _ _ _ (c .before .before .before .before .before .before .before .before .before .before .before .before .before .before .before .before .before .before .before .before .before .before .before .before .before .before .before .flag .ensures) small some few recorded-none held-none listed-none drawn-none stack-none)
+    runs _ _ _ (accepted _ _ _ e) e (c .before .before .before .before .before .before .before .before .before .before .before .before .before .before .before .before .before .before .before .before .before .before .before .logic-of .ensures) (c .before .before .before .before .before .before .before .before .before .before .before .before .before .before .before .before .before .before .before .before .before .before .before .before .before .before .before .before .before .flag .ensures)
+    (λ small some few. c .before .before .before .before .before .before .before .before .before .before .before .before .before .before .before .before .before .before .before .before .before .before .before .before .begin .ensures _ _ _ _ _ _ (c .before .before .before .before .before .before .before .before .before .before .before .before .before .before .before .before .before .before .before .before .before .before .before .before .before .before .before .before .before .flag .ensures) small some few recorded-none held-none listed-none listed-none drawn-none stack-none)
     (c .before .before .before .before .before .before .before .before .before .before .before .before .before .prove .ensures _ _ _)
-    (c .before .before .before .before .before .before .finish .ensures _ _ _ _ _ _)
+    (c .before .before .before .before .before .before .finish .ensures _ _ _ _ _ _ _)
 
 pub run-spec : {M : Type 1} → statement M
 run-spec =

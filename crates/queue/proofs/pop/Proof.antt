@@ -1,4 +1,5 @@
 use borrow.Author.Needs.{needs}
+use Rattle.definition.specs.Queue as D
 use Rattle.queue.proofs.Taking.{pop-none, pop-some}
 use Rattle.queue.proofs.pop.Statement.{statement}
 use Rattle.queue.proofs.pop.Tie as tie
@@ -7,7 +8,7 @@ first-urgent-requires : tie.Need-first-urgent-requires
 first-urgent-requires c κs = search needs
 
 returns : tie.Need-returns
-returns c = λ rs ns q f k h e l g. pop-none l g _ _ (c .before .first-urgent .ensures rs ns q f k h e l g) (c .if1 .taken)
+returns c = λ rs ns q l k g. pop-none (D.getNodePriority rs ns) q l k g _ _ (c .before .first-urgent .ensures rs ns q k g) (c .if1 .taken)
 
 nth-requires : tie.Need-nth-requires
 nth-requires c κs = search needs
@@ -15,8 +16,13 @@ nth-requires c κs = search needs
 remove-requires : tie.Need-remove-requires
 remove-requires c κs = search needs
 
+remove-requires-2 : tie.Need-remove-requires-2
+remove-requires-2 c κs = search needs
+
 returns-2 : tie.Need-returns-2
-returns-2 c = λ rs ns q f k h e l g. let s = c .before .before .before .before .if1 .left in pop-some l g _ _ (c .before .before .before .before .before .first-urgent .ensures rs ns q f k h e l g) _ _ _ s (c .before .before .nth .ensures q _ l g s) (c .remove .ensures .0 q l g s)
+returns-2 c = λ rs ns q l k g.
+    let s = c .before .before .before .before .before .before .if1 .left in
+    pop-some (D.getNodePriority rs ns) q l k g _ _ (c .before .before .before .before .before .before .before .first-urgent .ensures rs ns q k g) _ _ _ _ _ s (c .before .before .before .before .nth .ensures q _ l g s) (c .before .before .remove .ensures .0 q l g s) (c .remove2 .ensures .0 _ k g s)
 
 pub pop-spec : {M : Type 1} → statement M
-pop-spec = tie.close (tie.spec first-urgent-requires returns nth-requires remove-requires returns-2)
+pop-spec = tie.close (tie.spec first-urgent-requires returns nth-requires remove-requires remove-requires-2 returns-2)
