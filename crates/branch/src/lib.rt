@@ -34,6 +34,9 @@ pub fn read_records(branch: &[u8], formulas: &mut [u16; 5120]) -> usize
         if 256 <= i {
             return n;
         }
+        if branch.len() < 6 * i + 6 {
+            return n;
+        }
         let x = record_at(branch, i);
         n = push_input(formulas, n, x.kind, x.mark, x.left, x.right);
         i += 1;

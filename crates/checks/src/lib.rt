@@ -248,6 +248,9 @@ fn check_records(branch: &[u8], count: usize) -> Checked
         if 256 <= i {
             return accepted();
         }
+        if branch.len() < 6 * i + 6 {
+            return accepted();
+        }
         let x = record_at(branch, i);
         let size = expanded_size(&sizes, x);
         let c = check_record(x, i as u16, size);

@@ -1,20 +1,20 @@
 -- Laws of a graph in its array.
-use Prim.Native.Nat.{ℕ, _+_, _*_, _≤_, _<_}
+use Prim.Native.Nat.{ℕ, _+_, _-_, _*_, _≤_, _<_}
 use mathlib.Core.Path.{_≡_, refl, sym, ap, _∙_}
 use mathlib.Core.Bool.{Bool, true, false, not, _&&_, _||_}
-use mathlib.Core.Logic.{_⊎_, inr, ⊎-elim}
+use mathlib.Core.Logic.{_⊎_, inl, inr, ⊎-elim}
 use mathlib.Core.List.{List}
 use native.Mathlib.Omega.{arith}
 use lib.Dec.{ltb, eqb}
 use lib.ListN.{getD, replicate, length-replicate, getD-replicate}
-use borrow.Author.Tests.{ltb-true, eqb-true, lt-ltb}
-use Rattle.definition.specs.Lists.{any, below}
+use borrow.Author.Tests.{ltb-true, eqb-true, lt-ltb, le-ltb}
+use Rattle.definition.specs.Lists.{any, upFrom, below}
 use Rattle.definition.specs.Graph.{Graph, edge, graphOf, emptyGraph, addMissingReflexiveVertices, addMissingSymmetricVertices, paired, addMissingTransitiveVertices}
 use Rattle.definition.proofs.Lists.{true-false, and-left, and-right, or-cases, either, any-below}
 use Rattle.definition.proofs.Edges.{edge-graph}
 use Rattle.graph.specs.Drawn.{flag, grid, Drawn}
 use Rattle.graph.proofs.Grid.{edge-of, grid-cell, grid-by, grid-same}
-use Rattle.graph.proofs.Scan.{any-less}
+use Rattle.graph.proofs.Scan.{any-false}
 
 -- no world, and an array of zeros
 pub drawn-none : Drawn emptyGraph 0 (replicate 625 0)
@@ -34,8 +34,11 @@ reflexives n u v = ltb u n && eqb u v
 abbrev pub symmetrics : Graph → ℕ → ℕ → Bool
 symmetrics g u v = edge g v u
 
+abbrev paths : Graph → ℕ → ℕ → Bool
+paths g u w = any (paired g u w) (below (g .worlds))
+
 abbrev pub transitives : Graph → ℕ → ℕ → Bool
-transitives g u w = any (paired g u w) (below (g .worlds))
+transitives g u w = edge g u w || paths g u w
 
 module _ {g : Graph} {n : ℕ} {a : List ℕ} (d : Drawn g n a) where
   -- an edge between other worlds is none
@@ -50,10 +53,26 @@ module _ {g : Graph} {n : ℕ} {a : List ℕ} (d : Drawn g n a) where
       go true = refl
       go false = refl
 
-  -- the worlds of the graph are as good as all 25, for a pair by way of one of them
-  pub paired-all : (u w : ℕ) → any (paired g u w) (below 25) ≡ transitives g u w
+  -- no scan adds an edge between other worlds
+  pub symmetrics-out : (u v : ℕ) → n ≤ u → symmetrics g u v ≡ false
+  symmetrics-out u v h = drawn-out v u (inr h)
+
+  pub transitives-out : (u w : ℕ) → (n ≤ u) ⊎ (n ≤ w) → transitives g u w ≡ false
   unfolding paired
-  paired-all u w = any-less (paired g u w) (g .worlds) 25 0 (omega (arith, d .count, d .room)) (λ v h. rw (drawn-out u v (inr (omega (arith, d .count)))))
+  transitives-out u w h =
+      rw (drawn-out u w h)
+      (any-false (paired g u w) (g .worlds) 0 (λ v k. ⊎-elim (λ i. rw (drawn-out u v (inl i))) (λ i. rw (drawn-out v w (inr i)) (none (edge g u v))) h))
+    where
+      none : (b : Bool) → (b && false) ≡ false
+      none true = refl
+      none false = refl
+
+  -- the search for a world between two, where no edge joins them
+  pub paths-start : (u w : ℕ) → edge g u w ≡ false → any (paired g u w) (upFrom (n - 0) 0) ≡ transitives g u w
+  paths-start u w h = let z : n - 0 ≡ g .worlds = omega (arith, d .count) in rw (h, z)
+
+pub reflexives-out : (n u v : ℕ) → n ≤ u → reflexives n u v ≡ false
+reflexives-out n u v h = rw (le-ltb u n h)
 
 -- a test that tells that two worlds are there holds only of such
 pub within : (u v n : ℕ) (b : Bool) → (b ≡ true → (u < n) × (v < n)) → b ≡ (ltb u n && (ltb v n && b))
@@ -99,11 +118,16 @@ module _ {g : Graph} {n : ℕ} {a b : List ℕ} (d : Drawn g n a) where
   pub drawn-transitive : b ≡ grid (λ u v. edge g u v || transitives g u v) → Drawn (addMissingTransitiveVertices g) n b
   unfolding addMissingTransitiveVertices paired
   drawn-transitive q =
-      drawn-graph n (g .worlds) (λ u v. edge g u v || transitives g u v) (λ u v. edge g u v || transitives g u v) (d .count) (d .room) (λ u w.
-      within u w n (edge g u w || transitives g u w) (λ t. ⊎-elim (d .inside u w) (λ s.
+      drawn-graph n (g .worlds) (transitives g) (transitives g) (d .count) (d .room) (λ u w.
+      within u w n (transitives g u w) (λ t. ⊎-elim (d .inside u w) (λ s.
       let found = any-below (paired g u w) (g .worlds) s in
       let v = found .0 in
       let second = edge g v w && not (eqb u v && eqb v w) in (
         d .inside u v (and-left (edge g u v) second (found .2)) .0,
         d .inside v w (and-left (edge g v w) (not (eqb u v && eqb v w)) (and-right (edge g u v) second (found .2))) .1,
-      )) (or-cases (edge g u w) (transitives g u w) t))) q
+      )) (or-cases (edge g u w) (paths g u w) t)))
+      (q ∙ grid-same (λ u v. edge g u v || transitives g u v) (transitives g) (λ u v hu hv. twice (edge g u v) (paths g u v)))
+    where
+      twice : (a b : Bool) → (a || (a || b)) ≡ (a || b)
+      twice true b = refl
+      twice false b = refl

@@ -62,8 +62,14 @@ module _ (e x : ℕ → ℕ → Bool) where
   pub scan-start : grid e ≡ grid (scanned e x 0)
   scan-start = grid-same e (scanned e x 0) (λ u v hu hv. sym (scanned-out 0 u v (λ h. absurd (omega arith))))
 
-  pub scan-end : (n : ℕ) → 625 ≤ n → grid (scanned e x n) ≡ grid (λ u v. e u v || x u v)
-  scan-end n h = grid-same (scanned e x n) (λ u v. e u v || x u v) (λ u v hu hv. scanned-in n u v (omega arith))
+  -- the first m rows are enough, where the rule gives nothing beyond
+  pub scan-end : (n m : ℕ) → m * 25 ≤ n → ((u v : ℕ) → m ≤ u → x u v ≡ false) → grid (scanned e x n) ≡ grid (λ u v. e u v || x u v)
+  scan-end n m h out =
+      grid-same (scanned e x n) (λ u v. e u v || x u v) (λ u v hu hv.
+      ⊎-elim (λ t. scanned-in n u v (ltb-true (u * 25 + v) n t)) (λ t.
+      let z : x u v ≡ false = out u v (omega (arith, ltb-false (u * 25 + v) n t)) in
+      scanned-out n u v (λ s. z) ∙ sym (ap (λ (b : Bool). e u v || b) z ∙ or-none (e u v)))
+      (either (ltb (u * 25 + v) n)))
 
   -- a turn of the scan, from what `add_vertex_if` ensures
   pub scan-next : (n u v : ℕ) (b : Bool) (a a′ : List ℕ) → (u ≡ n / 25) × (v ≡ n % 25) → b ≡ x u v → a ≡ grid (scanned e x n) →
@@ -90,12 +96,6 @@ module _ (p : ℕ → Bool) where
   pub any-miss : (n j : ℕ) → j < n → p j ≡ false → any p (upFrom (n - j) j) ≡ any p (upFrom (n - (j + 1)) (j + 1))
   any-miss n j h e = let z : n - j ≡ suc (n - (j + 1)) = omega arith in ap (λ (k : ℕ). any p (upFrom k j)) z ∙ rw (e, add-one)
 
-  any-false : (n i : ℕ) → ((v : ℕ) → i ≤ v → p v ≡ false) → any p (upFrom n i) ≡ false
+  pub any-false : (n i : ℕ) → ((v : ℕ) → i ≤ v → p v ≡ false) → any p (upFrom n i) ≡ false
   any-false zero i h = refl
   any-false (suc n) i h = rw (h i (omega arith)) (any-false n (suc i) (λ v k. h v (omega arith)))
-
-  -- numbers at the end that fail the test may be left out
-  pub any-less : (n m i : ℕ) → n ≤ m → ((v : ℕ) → i + n ≤ v → p v ≡ false) → any p (upFrom m i) ≡ any p (upFrom n i)
-  any-less zero m i b h = any-false m i (λ v k. h v (omega arith))
-  any-less (suc n) zero i b h = absurd (omega arith)
-  any-less (suc n) (suc m) i b h = ap (λ (c : Bool). p i || c) (any-less n m (suc i) (omega arith) (λ v k. h v (omega arith)))

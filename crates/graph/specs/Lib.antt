@@ -1,2 +1,3 @@
 pub mod Drawn
 pub mod Logic
+pub mod Table

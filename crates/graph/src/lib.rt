@@ -90,10 +90,10 @@ pub fn add_missing_graph_vertices(edges: &mut [u8; 625], worlds: usize, logic: N
         add_missing_reflexive_vertices(edges, worlds);
     }
     if logic.is_symmetric {
-        add_missing_symmetric_vertices(edges);
+        add_missing_symmetric_vertices(edges, worlds);
     }
     if logic.is_transitive {
-        add_missing_transitive_vertices(edges);
+        add_missing_transitive_vertices(edges, worlds);
     }
 }
 

@@ -3,13 +3,14 @@ use crate::GraphVertex;
 use crate::PossibleWorld;
 use crate::add_vertex;
 use crate::contains;
+use crate::vertices::table;
 use crate::vertices::vertex_at;
 ghost use mathlib.Core.Path.{_≡_};
-ghost use mathlib.Core.Bool.{Bool, cond, _&&_};
+ghost use mathlib.Core.Bool.{Bool, cond, _&&_, _||_};
 ghost use Prim.Native.Nat.{ℕ};
 ghost use lib.Dec.{ltb, eqb};
 ghost use Rattle.definition.specs.Lists.{any, below};
-ghost use Rattle.definition.specs.Graph.{Graph, paired, addMissingReflexiveVertices, addMissingSymmetricVertices, addMissingTransitiveVertices};
+ghost use Rattle.definition.specs.Graph.{Graph, edge, paired, addMissingReflexiveVertices, addMissingSymmetricVertices, addMissingTransitiveVertices};
 ghost use Rattle.graph.specs.Drawn.{grid, withVertex, Drawn};
 
 // One edge more, if it is missing.
@@ -36,9 +37,13 @@ pub fn is_reflexive_vertex(worlds: usize, vertex: GraphVertex) -> bool
 pub fn add_missing_reflexive_vertices(edges: &mut [u8; 625], worlds: usize)
     ensures { λ r. ⌜ ((g : Graph) → Drawn g worlds (now (edges .entry)) → Drawn (addMissingReflexiveVertices g) worlds (now (edges .exit))) ⌝ }
 {
+    if 25 < worlds {
+        return;
+    }
+    let vertices = table();
     let mut n: usize = 0;
-    while n < 625 {
-        let vertex = vertex_at(n);
+    while n < worlds * 25 {
+        let vertex = vertex_at(&vertices, n);
         let missing = is_reflexive_vertex(worlds, vertex);
         add_vertex_if(edges, vertex, missing);
         n += 1;
@@ -46,13 +51,17 @@ pub fn add_missing_reflexive_vertices(edges: &mut [u8; 625], worlds: usize)
 }
 
 // Where u reaches v, v reaches u.
-pub fn add_missing_symmetric_vertices(edges: &mut [u8; 625])
-    ensures { λ r. ⌜ ((g : Graph) (k : ℕ) → Drawn g k (now (edges .entry)) → Drawn (addMissingSymmetricVertices g) k (now (edges .exit))) ⌝ }
+pub fn add_missing_symmetric_vertices(edges: &mut [u8; 625], worlds: usize)
+    ensures { λ r. ⌜ ((g : Graph) → Drawn g worlds (now (edges .entry)) → Drawn (addMissingSymmetricVertices g) worlds (now (edges .exit))) ⌝ }
 {
+    if 25 < worlds {
+        return;
+    }
     let stood = *edges;
+    let vertices = table();
     let mut n: usize = 0;
-    while n < 625 {
-        let vertex = vertex_at(n);
+    while n < worlds * 25 {
+        let vertex = vertex_at(&vertices, n);
         let missing = contains(&stood, vertex.to, vertex.from);
         add_vertex_if(edges, vertex, missing);
         n += 1;
@@ -77,13 +86,24 @@ pub fn is_paired(edges: &[u8; 625], vertex: GraphVertex, v: PossibleWorld) -> bo
     !v.is(to)
 }
 
-// Whether two unequal edges lead from the edge's first world to its last.
-pub fn is_transitive_vertex(edges: &[u8; 625], vertex: GraphVertex) -> bool
-    ensures { λ r. ⌜ ((g : Graph) (k : ℕ) → Drawn g k (now (edges .entry)) → r ≡ any (paired g (vertex .from .0) (vertex .to .0)) (below (g .worlds))) ⌝ }
+// Whether the edge is there, or two unequal edges lead from its first world to its last.
+pub fn is_transitive_vertex(edges: &[u8; 625], worlds: usize, vertex: GraphVertex) -> bool
+    ensures { λ r. ⌜ ((g : Graph) → Drawn g worlds (now (edges .entry)) → r ≡ (edge g (vertex .from .0) (vertex .to .0) || any (paired g (vertex .from .0) (vertex .to .0)) (below (g .worlds)))) ⌝ }
 {
-    let mut v: u16 = 0;
-    while v < 25 {
-        if is_paired(edges, vertex, PossibleWorld(v)) {
+    if 25 < worlds {
+        return false;
+    }
+    let from = vertex.from;
+    let to = vertex.to;
+    if worlds <= to.0 as usize {
+        return false;
+    }
+    if contains(edges, from, to) {
+        return true;
+    }
+    let mut v: usize = 0;
+    while v < worlds {
+        if is_paired(edges, vertex, PossibleWorld(v as u16)) {
             return true;
         }
         v += 1;
@@ -92,14 +112,18 @@ pub fn is_transitive_vertex(edges: &[u8; 625], vertex: GraphVertex) -> bool
 }
 
 // Where u reaches v and v reaches w by unequal edges, u reaches w.
-pub fn add_missing_transitive_vertices(edges: &mut [u8; 625])
-    ensures { λ r. ⌜ ((g : Graph) (k : ℕ) → Drawn g k (now (edges .entry)) → Drawn (addMissingTransitiveVertices g) k (now (edges .exit))) ⌝ }
+pub fn add_missing_transitive_vertices(edges: &mut [u8; 625], worlds: usize)
+    ensures { λ r. ⌜ ((g : Graph) → Drawn g worlds (now (edges .entry)) → Drawn (addMissingTransitiveVertices g) worlds (now (edges .exit))) ⌝ }
 {
+    if 25 < worlds {
+        return;
+    }
     let stood = *edges;
+    let vertices = table();
     let mut n: usize = 0;
-    while n < 625 {
-        let vertex = vertex_at(n);
-        let missing = is_transitive_vertex(&stood, vertex);
+    while n < worlds * 25 {
+        let vertex = vertex_at(&vertices, n);
+        let missing = is_transitive_vertex(&stood, worlds, vertex);
         add_vertex_if(edges, vertex, missing);
         n += 1;
     }

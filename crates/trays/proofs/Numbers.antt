@@ -6,7 +6,7 @@ use mathlib.Core.List.{List, [], _∷_, map}
 use native.Mathlib.Omega.{arith}
 use native.Mathlib.Numerals.{add-one}
 use native.Mathlib.Nat.{pow-suc, pow-le-pow-right}
-use lib.ListN.{length, getD, set, drop, length-map, drop-of-length-le, List·getD-map}
+use lib.ListN.{length, getD, set, drop, length-map, drop-of-length-le, List·getD-map, List·getD-eq-default}
 use lib.Seq.{drop-cons}
 use Rattle.arrays.specs.Data.{pad}
 use Rattle.arrays.proofs.Laws.{getD-pad}
@@ -64,6 +64,11 @@ module _ (g : Graph) {n : ℕ} {a : List ℕ} (drawn : Drawn g n a) (square : le
   row-fits h u =
       let w : g .worlds ≤ 25 = omega (arith, drawn .count, drawn .room) in
       each-get (λ (row : List Bool). length row ≤ 25) (g .rows) [] (each-map (λ row (e : length row ≡ g .worlds). omega arith) (g .rows) h) u (λ l. omega arith)
+
+  -- a number that is no world
+  pub row-none : (u : ℕ) → n ≤ u → 0 ≡ rowNumber (rowOf g u)
+  unfolding rowNumber
+  row-none u h = rw (List·getD-eq-default (g .rows) [] {n = u} (omega (arith, square, drawn .count)))
 
   numbers-length : length (rowNumbers g) ≡ 25
   numbers-length = padded-length 25 (map rowNumber (g .rows)) (omega (arith, length-map (g .rows) rowNumber, drawn .count, drawn .room))

@@ -30,7 +30,7 @@ unfolding over
 written-none lent = record { ends = refl; cells = refl }
 
 module _ {lent w t : List ℕ} {at : ℕ} (h : Written lent w at t) where
-  written-length : length w ≤ length lent → length t ≡ length lent
+  pub written-length : length w ≤ length lent → length t ≡ length lent
   written-length r = ap length (h .cells) ∙ over-length w lent r
 
 pub puts-full : {b at next : ℕ} {t after : List ℕ} → length t ≤ at → Puts (b ∷ []) at t next after
@@ -71,14 +71,14 @@ pub writing-start : {goal lent w t : List ℕ} {at : ℕ} (rest : List ℕ) → 
 writing-start {w} rest h e = record { before = w; written = h; same = e }
 
 module _ {goal rest lent t : List ℕ} {at : ℕ} (h : Writing goal rest lent at t) where
-  sizes : length (h .before) + length rest ≡ length goal
-  sizes = sym (length-append (h .before) rest) ∙ ap length (h .same)
+  pub writing-sizes : length (h .before) + length rest ≡ length goal
+  writing-sizes = sym (length-append (h .before) rest) ∙ ap length (h .same)
 
   pub writing-end : rest ≡ [] → Written lent goal at t
   writing-end e = subst (λ (l : List ℕ). Written lent l at t) (sym (append-nil (h .before)) ∙ ap (λ (l : List ℕ). h .before ++ l) (sym e) ∙ h .same) (h .written)
 
   pub writing-room : (bs more : List ℕ) → rest ≡ bs ++ more → length goal ≤ length lent → length (h .before) + length bs ≤ length lent
-  writing-room bs more e l = omega (arith, sizes, ap length e, length-append bs more)
+  writing-room bs more e l = omega (arith, writing-sizes, ap length e, length-append bs more)
 
   pub writing-next : {u bs more : List ℕ} {next : ℕ} → Puts bs at t next u → rest ≡ bs ++ more → length goal ≤ length lent → Writing goal more lent next u
   writing-next {u} {bs} {more} p e l =

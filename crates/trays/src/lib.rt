@@ -69,11 +69,11 @@ fn put_two(tray: &mut [u8], at: usize, n: u16) -> usize
 fn put_zeros(tray: &mut [u8], at: usize, end: usize)
     ensures { λ r. ⌜ ((lent w : List ℕ) → Written lent w at (now (tray .entry)) → length w ≤ end → end ≤ length lent → now (tray .exit) ≡ over (padded end w) lent) ⌝ }
 {
+    if tray.len() < end {
+        return;
+    }
     let mut i = at;
     while i < end {
-        if tray.len() <= i {
-            return;
-        }
         tray[i] = 0;
         i += 1;
     }
@@ -160,16 +160,15 @@ pub fn write_nodes(tray: &mut [u8], tree: &[u16; 4608], len: usize)
     ensures { λ r. ⌜ ((ns : List Node) → length ns ≡ len → len ≤ 512 → now (tree .entry) ≡ lay ns → Each (λ (x : Node). x .world < 256) ns
         → 6144 ≤ length (now (tray .entry)) → now (tray .exit) ≡ over (padded nodeTrayLength (concatMap nodeBytes ns)) (now (tray .entry))) ⌝ }
 {
-    let mut at: usize = 0;
     let mut i: usize = 0;
     while i < len {
         if 512 <= i {
             return;
         }
-        at = append_node(tray, at, tree, ProofTreeNodeID(i as u16));
+        append_node(tray, i * 12, tree, ProofTreeNodeID(i as u16));
         i += 1;
     }
-    put_zeros(tray, at, 6144);
+    put_zeros(tray, i * 12, 6144);
 }
 
 // The record of formula f, 6 bytes.
@@ -198,22 +197,24 @@ pub fn write_formulas(tray: &mut [u8], formulas: &[u16; 5120], count: usize)
     ensures { λ r. ⌜ ((rs : List Rec) → Recorded rs count (now (formulas .entry)) → count ≤ 1280 → Each (λ (r : Rec). r .mark < 256) rs
         → 7680 ≤ length (now (tray .entry)) → now (tray .exit) ≡ over (padded formulaTrayLength (concatMap recordBytes rs)) (now (tray .entry))) ⌝ }
 {
-    let mut at: usize = 0;
     let mut i: usize = 0;
     while i < count {
         if 1280 <= i {
             return;
         }
-        at = put_formula(tray, at, formulas, count, FormulaNumber(i as u16));
+        put_formula(tray, i * 6, formulas, count, FormulaNumber(i as u16));
         i += 1;
     }
-    put_zeros(tray, at, 7680);
+    put_zeros(tray, i * 6, 7680);
 }
 
-// The edge number of world u: bit v says that u reaches v.
-fn edge_number(edges: &[u8; 625], u: PossibleWorld) -> u32
-    ensures { λ r. ⌜ ((g : Graph) (n : ℕ) → Drawn g n (now (edges .entry)) → length (getD (g .rows) (u .0) []) ≤ 25 → r ≡ rowNumber (getD (g .rows) (u .0) [])) ⌝ }
+// The edge number of world u: bit v says that u reaches v. Zero of a number that is no world.
+fn edge_number(edges: &[u8; 625], worlds: usize, u: PossibleWorld) -> u32
+    ensures { λ r. ⌜ ((g : Graph) → Drawn g worlds (now (edges .entry)) → length (g .rows) ≡ g .worlds → length (getD (g .rows) (u .0) []) ≤ 25 → r ≡ rowNumber (getD (g .rows) (u .0) [])) ⌝ }
 {
+    if worlds <= u.0 as usize {
+        return 0;
+    }
     let mut n: u32 = 0;
     let mut v: usize = 25;
     while 0 < v {
@@ -233,7 +234,7 @@ pub fn write_edges(tray: &mut [u32], edges: &[u8; 625], worlds: usize)
         if tray.len() <= u {
             return;
         }
-        tray[u] = edge_number(edges, PossibleWorld(u as u16));
+        tray[u] = edge_number(edges, worlds, PossibleWorld(u as u16));
         u += 1;
     }
 }
@@ -249,11 +250,11 @@ pub fn clear(tray: &mut [u8], end: usize)
 pub fn clear_edges(tray: &mut [u32])
     ensures { λ r. ⌜ (25 ≤ length (now (tray .entry)) → now (tray .exit) ≡ over (replicate edgeTrayLength 0) (now (tray .entry))) ⌝ }
 {
+    if tray.len() < 25 {
+        return;
+    }
     let mut world: usize = 0;
     while world < 25 {
-        if tray.len() <= world {
-            return;
-        }
         tray[world] = 0;
         world += 1;
     }

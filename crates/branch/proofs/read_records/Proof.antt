@@ -21,6 +21,15 @@ loop-holds c = (search needs, λ p. reading-start _ refl p)
 returns : tie.Need-returns Inv-loop μ-loop
 returns c = λ few p. absurd (omega (arith, few, c .if1 .taken, c .before .loop-test .taken))
 
+mul-if2 : tie.Need-mul-if2 Inv-loop μ-loop
+mul-if2 c = search needs
+
+add-if2 : tie.Need-add-if2 Inv-loop μ-loop
+add-if2 c = search needs
+
+returns-2 : tie.Need-returns-2 Inv-loop μ-loop
+returns-2 c = λ few p. absurd (omega (arith, c .if2 .taken, c .before .before .loop-test .taken))
+
 record-at-requires : tie.Need-record-at-requires Inv-loop μ-loop
 record-at-requires c κs = search needs
 
@@ -35,10 +44,10 @@ loop-less c = search needs
 
 loop-again : tie.Need-loop-again Inv-loop μ-loop
 unfolding recordOf
-loop-again c = (search needs, λ p. reading-next _ (c .before .before .before .before .before .loop .inv .1 p) _ (c .before .before .before .before .loop-test .taken) (c .before .before .record-at .ensures (c .before .before .before .if1 .left)) (c .push-input .ensures))
+loop-again c = (search needs, λ p. reading-next _ (c .before .before .before .before .before .before .loop .inv .1 p) _ (c .before .before .before .before .before .loop-test .taken) (c .before .before .record-at .ensures (c .before .before .before .before .if1 .left)) (c .push-input .ensures))
 
-returns-2 : tie.Need-returns-2 Inv-loop μ-loop
-returns-2 c = λ few p. reading-end _ (c .before .loop .inv .1 p) (c .loop-test .left)
+returns-3 : tie.Need-returns-3 Inv-loop μ-loop
+returns-3 c = λ few p. reading-end _ (c .before .loop .inv .1 p) (c .loop-test .left)
 
 pub read-records-spec : {M : Type 1} → statement M
 read-records-spec =
@@ -48,9 +57,12 @@ read-records-spec =
     μ-loop
     loop-holds
     returns
+    mul-if2
+    add-if2
+    returns-2
     record-at-requires
     push-input-requires
     add-i
     loop-less
     loop-again
-    returns-2)
+    returns-3)

@@ -22,6 +22,18 @@ accepted-requires c κs = search needs
 returns : tie.Need-returns Inv-loop μ-loop
 returns c = λ e h. absurd (omega (arith, c .before .if1 .taken, c .before .before .loop-test .taken))
 
+mul-if2 : tie.Need-mul-if2 Inv-loop μ-loop
+mul-if2 c = search needs
+
+add-if2 : tie.Need-add-if2 Inv-loop μ-loop
+add-if2 c = search needs
+
+accepted-requires-2 : tie.Need-accepted-requires-2 Inv-loop μ-loop
+accepted-requires-2 c κs = search needs
+
+returns-2 : tie.Need-returns-2 Inv-loop μ-loop
+returns-2 c = λ e h. absurd (omega (arith, e, c .before .if2 .taken, c .before .before .before .loop-test .taken))
+
 record-at-requires : tie.Need-record-at-requires Inv-loop μ-loop
 record-at-requires c κs = search needs
 
@@ -37,11 +49,11 @@ check-record-requires c κs = search needs
 is-refusal-requires : tie.Need-is-refusal-requires Inv-loop μ-loop
 is-refusal-requires c κs = search needs
 
-returns-2 : tie.Need-returns-2 Inv-loop μ-loop
-returns-2 c = λ e h. reading-refused (c .before .before .before .before .before .before .before .before .loop .inv .1 e h) (omega (arith, c .before .before .before .before .before .before .before .loop-test .taken)) (c .before .before .before .before .before .before .if1 .left) _ _ _ (c .before .before .before .before .before .record-at .ensures) (c .before .before .before .expanded-size .ensures) (c .before .before .check-record .ensures .0) (sym (c .before .is-refusal .ensures) ∙ c .if2 .taken)
+returns-3 : tie.Need-returns-3 Inv-loop μ-loop
+returns-3 c = λ e h. reading-refused (c .before .before .before .before .before .before .before .before .before .loop .inv .1 e h) (omega (arith, c .before .before .before .before .before .before .before .before .loop-test .taken)) (c .before .before .before .before .before .before .before .if1 .left) _ _ _ (c .before .before .before .before .before .record-at .ensures) (c .before .before .before .expanded-size .ensures) (c .before .before .check-record .ensures .0) (sym (c .before .is-refusal .ensures) ∙ c .if3 .taken)
 
 cast-sizes : tie.Need-cast-sizes Inv-loop μ-loop
-cast-sizes c = omega (arith, c .before .before .check-record .ensures .1 (sym (c .before .is-refusal .ensures) ∙ c .if2 .left))
+cast-sizes c = omega (arith, c .before .before .check-record .ensures .1 (sym (c .before .is-refusal .ensures) ∙ c .if3 .left))
 
 mul-sizes : tie.Need-mul-sizes Inv-loop μ-loop
 mul-sizes c = search needs
@@ -56,13 +68,13 @@ loop-less : tie.Need-loop-less Inv-loop μ-loop
 loop-less c = search needs
 
 loop-again : tie.Need-loop-again Inv-loop μ-loop
-loop-again c = (search needs, λ e h. reading-next (c .before .before .before .before .before .before .before .before .loop .inv .1 e h) (omega (arith, c .before .before .before .before .before .before .before .loop-test .taken)) (c .before .before .before .before .before .before .if1 .left) _ _ _ (c .before .before .before .before .before .record-at .ensures) (c .before .before .before .expanded-size .ensures) (c .before .before .check-record .ensures .0) (sym (c .before .is-refusal .ensures) ∙ c .if2 .left))
+loop-again c = (search needs, λ e h. reading-next (c .before .before .before .before .before .before .before .before .before .loop .inv .1 e h) (omega (arith, c .before .before .before .before .before .before .before .before .loop-test .taken)) (c .before .before .before .before .before .before .before .if1 .left) _ _ _ (c .before .before .before .before .before .record-at .ensures) (c .before .before .before .expanded-size .ensures) (c .before .before .check-record .ensures .0) (sym (c .before .is-refusal .ensures) ∙ c .if3 .left))
 
-accepted-requires-2 : tie.Need-accepted-requires-2 Inv-loop μ-loop
-accepted-requires-2 c κs = search needs
+accepted-requires-3 : tie.Need-accepted-requires-3 Inv-loop μ-loop
+accepted-requires-3 c κs = search needs
 
-returns-3 : tie.Need-returns-3 Inv-loop μ-loop
-returns-3 c = λ e h. reading-end (c .before .before .loop .inv .1 e h) (omega (arith, c .before .loop-test .left)) (c .accepted2 .ensures)
+returns-4 : tie.Need-returns-4 Inv-loop μ-loop
+returns-4 c = λ e h. reading-end (c .before .before .loop .inv .1 e h) (omega (arith, c .before .loop-test .left)) (c .accepted3 .ensures)
 
 pub check-records-spec : {M : Type 1} → statement M
 check-records-spec =
@@ -73,17 +85,21 @@ check-records-spec =
     loop-holds
     accepted-requires
     returns
+    mul-if2
+    add-if2
+    accepted-requires-2
+    returns-2
     record-at-requires
     expanded-size-requires
     cast-check-record
     check-record-requires
     is-refusal-requires
-    returns-2
+    returns-3
     cast-sizes
     mul-sizes
     array-write-sizes
     add-i
     loop-less
     loop-again
-    accepted-requires-2
-    returns-3)
+    accepted-requires-3
+    returns-4)

@@ -10,7 +10,7 @@ first : (c : tie.Joined1) → Ran (c .before .args .worlds) (c .before .args .lo
 first c = ⊎-elim (λ w. ran (w .0 .taken) (λ h p. rw (w .3) (w .2 .ensures h p))) (λ w. idle (w .0 .left) (w .1)) (c .if1 .came)
 
 second : (c : tie.Joined2) → Ran (c .before .before .args .worlds) (c .before .before .args .logic .«is_symmetric») addMissingSymmetricVertices (c .before .if1 .edges) (c .if2 .edges)
-second c = ⊎-elim (λ w. ran (w .0 .taken) (λ h p. rw (w .3) (w .2 .ensures h _ p))) (λ w. idle (w .0 .left) (w .1)) (c .if2 .came)
+second c = ⊎-elim (λ w. ran (w .0 .taken) (λ h p. rw (w .3) (w .2 .ensures h p))) (λ w. idle (w .0 .left) (w .1)) (c .if2 .came)
 
 add-missing-reflexive-vertices-requires : tie.Need-add-missing-reflexive-vertices-requires
 add-missing-reflexive-vertices-requires c κs = search needs
@@ -22,7 +22,7 @@ add-missing-transitive-vertices-requires : tie.Need-add-missing-transitive-verti
 add-missing-transitive-vertices-requires c κs = search needs
 
 returns : tie.Need-returns
-returns c = λ F g e d. ran-all F e (first (c .before .before .before .before)) (second (c .before .before .before)) (ran (c .before .before .if3 .taken) (λ h p. c .add-missing-transitive-vertices .ensures h _ p)) g d
+returns c = λ F g e d. ran-all F e (first (c .before .before .before .before)) (second (c .before .before .before)) (ran (c .before .before .if3 .taken) (λ h p. c .add-missing-transitive-vertices .ensures h p)) g d
 
 returns-2 : tie.Need-returns-2
 returns-2 c = λ F g e d. ran-all F e (first (c .before .before)) (second (c .before)) (idle (c .if3 .left) refl) g d

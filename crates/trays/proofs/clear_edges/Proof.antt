@@ -1,11 +1,11 @@
+use borrow.Author.Needs.{needs}
 use Prim.Native.Nat.{ℕ, _≤_, _-_}
 use mathlib.Core.Path.{_≡_, _∙_, ap}
 use mathlib.Core.List.{List, []}
 use native.Mathlib.Omega.{arith}
 use lib.ListN.{length}
 use Rattle.definition.specs.Trays.{over}
-use Rattle.trays.proofs.Writing.{Zeros, written-none, padded-none, zeros-start, zeros-next, zeros-within, zeros-end}
-use borrow.Author.Needs.{needs}
+use Rattle.trays.proofs.Writing.{Zeros, written-none, padded-none, zeros-start, zeros-next, zeros-end}
 use Rattle.trays.proofs.clear_edges.Statement.{statement}
 use Rattle.trays.proofs.clear_edges.Tie as tie
 
@@ -15,14 +15,11 @@ Inv-loop tray₀ world₀ tray world = (length tray ≡ length tray₀) × (25 �
 abbrev μ-loop : tie.MeasureT-loop
 μ-loop tray₀ world₀ tray world = 25 - world
 
+returns : tie.Need-returns Inv-loop μ-loop
+returns c = λ r. absurd (omega (arith, c .if1 .taken))
+
 loop-holds : tie.Need-loop-holds Inv-loop μ-loop
 loop-holds c = (search needs, λ r. zeros-start 25 [] _ (omega arith) r (written-none _))
-
-same-length : tie.Need-same-length Inv-loop μ-loop
-same-length c = search needs
-
-returns : tie.Need-returns Inv-loop μ-loop
-returns c = λ r. absurd (omega (arith, c .if1 .taken, zeros-within 25 [] _ (omega arith) r _ (c .before .before .loop .inv .1 r) (c .before .loop-test .taken)))
 
 mul-tray : tie.Need-mul-tray Inv-loop μ-loop
 mul-tray c = search needs
@@ -37,13 +34,13 @@ loop-less : tie.Need-loop-less Inv-loop μ-loop
 loop-less c = search needs
 
 loop-again : tie.Need-loop-again Inv-loop μ-loop
-loop-again c = (search needs, λ r. zeros-next 25 [] _ (omega arith) r _ (c .before .before .loop .inv .1 r) (c .before .loop-test .taken))
+loop-again c = (search needs, λ r. zeros-next 25 [] _ (omega arith) r _ (c .before .loop .inv .1 r) (c .loop-test .taken))
 
-same-length-2 : tie.Need-same-length-2 Inv-loop μ-loop
-same-length-2 c = search needs
+same-length : tie.Need-same-length Inv-loop μ-loop
+same-length c = search needs
 
 returns-2 : tie.Need-returns-2 Inv-loop μ-loop
-returns-2 c = λ r. zeros-end 25 [] _ (omega arith) r _ (c .before .loop .inv .1 r) (c .loop-test .left) ∙ ap (λ (l : List ℕ). over l (c .before .before .args .tray .now)) (padded-none 25)
+returns-2 c = λ r. zeros-end 25 [] _ (omega arith) r _ (c .before .loop .inv .1 r) (c .loop-test .left) ∙ ap (λ (l : List ℕ). over l (c .before .before .before .args .tray .now)) (padded-none 25)
 
 pub clear-edges-spec : {M : Type 1} → statement M
 clear-edges-spec =
@@ -51,13 +48,12 @@ clear-edges-spec =
     (tie.spec
     Inv-loop
     μ-loop
-    loop-holds
-    same-length
     returns
+    loop-holds
     mul-tray
     slice-write-tray
     add-world
     loop-less
     loop-again
-    same-length-2
+    same-length
     returns-2)

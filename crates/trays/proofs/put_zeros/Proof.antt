@@ -1,11 +1,11 @@
+use borrow.Author.Needs.{needs}
 use Prim.Native.Nat.{ℕ, _≤_, _-_}
 use mathlib.Core.Path.{_≡_}
 use mathlib.Core.List.{List}
 use native.Mathlib.Omega.{arith}
 use lib.ListN.{length}
 use Rattle.trays.specs.Written.{Written}
-use Rattle.trays.proofs.Writing.{Zeros, zeros-start, zeros-next, zeros-within, zeros-end}
-use borrow.Author.Needs.{needs}
+use Rattle.trays.proofs.Writing.{Zeros, written-length, zeros-start, zeros-next, zeros-end}
 use Rattle.trays.proofs.put_zeros.Statement.{statement}
 use Rattle.trays.proofs.put_zeros.Tie as tie
 
@@ -15,14 +15,11 @@ Inv-loop tray₀ at end i₀ tray i = (length tray ≡ length tray₀) × ((lent
 abbrev μ-loop : tie.MeasureT-loop
 μ-loop tray₀ at end i₀ tray i = end - i
 
+returns : tie.Need-returns Inv-loop μ-loop
+returns c = λ lent w h f r. absurd (omega (arith, c .if1 .taken, written-length h (omega arith)))
+
 loop-holds : tie.Need-loop-holds Inv-loop μ-loop
 loop-holds c = (search needs, λ lent w h f r. zeros-start _ w lent f r h)
-
-same-length : tie.Need-same-length Inv-loop μ-loop
-same-length c = search needs
-
-returns : tie.Need-returns Inv-loop μ-loop
-returns c = λ lent w h f r. absurd (omega (arith, c .if1 .taken, zeros-within _ w lent f r _ (c .before .before .loop .inv .1 lent w h f r) (c .before .loop-test .taken)))
 
 slice-write-tray : tie.Need-slice-write-tray Inv-loop μ-loop
 slice-write-tray c = search needs
@@ -34,10 +31,10 @@ loop-less : tie.Need-loop-less Inv-loop μ-loop
 loop-less c = search needs
 
 loop-again : tie.Need-loop-again Inv-loop μ-loop
-loop-again c = (search needs, λ lent w h f r. zeros-next _ w lent f r _ (c .before .before .loop .inv .1 lent w h f r) (c .before .loop-test .taken))
+loop-again c = (search needs, λ lent w h f r. zeros-next _ w lent f r _ (c .before .loop .inv .1 lent w h f r) (c .loop-test .taken))
 
-same-length-2 : tie.Need-same-length-2 Inv-loop μ-loop
-same-length-2 c = search needs
+same-length : tie.Need-same-length Inv-loop μ-loop
+same-length c = search needs
 
 returns-2 : tie.Need-returns-2 Inv-loop μ-loop
 returns-2 c = λ lent w h f r. zeros-end _ w lent f r _ (c .before .loop .inv .1 lent w h f r) (c .loop-test .left)
@@ -48,12 +45,11 @@ put-zeros-spec =
     (tie.spec
     Inv-loop
     μ-loop
-    loop-holds
-    same-length
     returns
+    loop-holds
     slice-write-tray
     add-i
     loop-less
     loop-again
-    same-length-2
+    same-length
     returns-2)

@@ -46,7 +46,7 @@ loop-less : tie.Need-loop-less Inv-loop μ-loop
 loop-less c = search needs
 
 loop-again : tie.Need-loop-again Inv-loop μ-loop
-loop-again c = (search needs, λ g d s h r. edges-next g d s _ r _ (c .before .before .before .loop .inv .1 g d s h r) (c .before .before .loop-test .taken) (c .edge-number .ensures g _ d (row-fits g d s h _)))
+loop-again c = (search needs, λ g d s h r. edges-next g d s _ r _ (c .before .before .before .loop .inv .1 g d s h r) (c .before .before .loop-test .taken) (c .edge-number .ensures g d s (row-fits g d s h _)))
 
 same-length-2 : tie.Need-same-length-2 Inv-loop μ-loop
 same-length-2 c = search needs

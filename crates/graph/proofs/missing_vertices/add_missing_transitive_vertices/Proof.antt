@@ -1,23 +1,34 @@
 use borrow.Author.Needs.{needs}
-use Prim.Native.Nat.{ℕ, _-_, _≤_}
+use Prim.Native.Nat.{_-_, _*_, _≤_}
 use mathlib.Core.Path.{_≡_, _∙_}
+use mathlib.Core.Logic.{inl}
+use native.Mathlib.Omega.{arith}
 use Rattle.definition.specs.Graph.{Graph, edge}
 use Rattle.graph.specs.Drawn.{grid, Drawn}
 use Rattle.graph.proofs.Scan.{scanned, scan-start, scan-next, scan-end}
-use Rattle.graph.proofs.Drawn.{transitives, drawn-transitive}
+use Rattle.graph.proofs.Drawn.{transitives, transitives-out, drawn-transitive}
 use Rattle.graph.proofs.missing_vertices.add_missing_transitive_vertices.Statement.{
   statement,
 }
 use Rattle.graph.proofs.missing_vertices.add_missing_transitive_vertices.Tie as tie
 
 abbrev Inv-loop : tie.InvT-loop
-Inv-loop edges₀ stood n₀ edges n = (n ≤ 625) × ((g : Graph) (k : ℕ) → Drawn g k edges₀ → edges ≡ grid (scanned (edge g) (transitives g) n))
+Inv-loop edges₀ worlds stood vertices n₀ edges n = (n ≤ worlds * 25) × ((g : Graph) → Drawn g worlds edges₀ → edges ≡ grid (scanned (edge g) (transitives g) n))
 
 abbrev μ-loop : tie.MeasureT-loop
-μ-loop edges₀ stood n₀ edges n = 625 - n
+μ-loop edges₀ worlds stood vertices n₀ edges n = worlds * 25 - n
+
+returns : tie.Need-returns Inv-loop μ-loop
+returns c = λ g d. absurd (omega (arith, c .if1 .taken, d .room))
+
+table-requires : tie.Need-table-requires Inv-loop μ-loop
+table-requires c κs = search needs
 
 loop-holds : tie.Need-loop-holds Inv-loop μ-loop
-loop-holds c = (search needs, λ g k d. d .cells ∙ scan-start (edge g) _)
+loop-holds c = (search needs, λ g d. d .cells ∙ scan-start (edge g) _)
+
+mul-loop : tie.Need-mul-loop Inv-loop μ-loop
+mul-loop c = search needs
 
 vertex-at-requires : tie.Need-vertex-at-requires Inv-loop μ-loop
 vertex-at-requires c κs = search needs
@@ -35,10 +46,10 @@ loop-less : tie.Need-loop-less Inv-loop μ-loop
 loop-less c = search needs
 
 loop-again : tie.Need-loop-again Inv-loop μ-loop
-loop-again c = (search needs, λ g k d. scan-next (edge g) (transitives g) _ _ _ _ _ _ (c .before .before .before .before .vertex-at .ensures .0 (c .before .before .before .before .before .loop-test .taken)) (c .before .before .is-transitive-vertex .ensures g k d) (c .before .before .before .before .before .before .loop .inv .1 g k d) (c .add-vertex-if .ensures))
+loop-again c = (search needs, λ g d. scan-next (edge g) (transitives g) _ _ _ _ _ _ (c .before .before .before .before .vertex-at .ensures .0 (c .before .before .before .before .before .before .before .before .table .ensures) (omega (arith, c .before .before .before .before .before .before .loop-test .taken, c .before .before .before .before .before .before .before .before .before .before .if1 .left))) (c .before .before .is-transitive-vertex .ensures g d) (c .before .before .before .before .before .before .before .loop .inv .1 g d) (c .add-vertex-if .ensures))
 
-returns : tie.Need-returns Inv-loop μ-loop
-returns c = λ g k d. drawn-transitive d (c .before .loop .inv .1 g k d ∙ scan-end (edge g) _ _ (c .loop-test .left))
+returns-2 : tie.Need-returns-2 Inv-loop μ-loop
+returns-2 c = λ g d. drawn-transitive d (c .before .loop .inv .1 g d ∙ scan-end (edge g) _ _ _ (c .loop-test .left) (λ u w h. transitives-out d u w (inl h)))
 
 pub add-missing-transitive-vertices-spec : {M : Type 1} → statement M
 add-missing-transitive-vertices-spec =
@@ -46,11 +57,14 @@ add-missing-transitive-vertices-spec =
     (tie.spec
     Inv-loop
     μ-loop
+    returns
+    table-requires
     loop-holds
+    mul-loop
     vertex-at-requires
     is-transitive-vertex-requires
     add-vertex-if-requires
     add-n
     loop-less
     loop-again
-    returns)
+    returns-2)
