@@ -7,14 +7,14 @@ ghost use lib.Dec.{eqb, ltb};
 ghost use Rattle.bits.specs.Bits.{bitOf, Bits};
 
 // The bit of i in a word.
-fn bit(word: u32, i: usize) -> bool
+pub fn bit(word: u32, i: usize) -> bool
     ensures { λ r. ⌜ r ≡ bitOf word (i % 32) ⌝ }
 {
     (word >> (i % 32)) % 2 == 1
 }
 
 // The word with the bit of i set.
-fn with_bit(word: u32, i: usize) -> u32
+pub fn with_bit(word: u32, i: usize) -> u32
     ensures { λ r. ⌜ ((k : ℕ) → k < 32 → bitOf r k ≡ (eqb k (i % 32) || bitOf word k)) ⌝ }
 {
     if bit(word, i) {

@@ -62,7 +62,7 @@ module _ (g : Graph) (n : Necessity) {worlds : ℕ} {ea : List ℕ} (d : Drawn g
   visit-fits [] l = listed-fits l (omega arith)
   visit-fits (x ∷ on) l = listed-fits l (omega (arith, few))
 
-  pub visit-low : (on : List ℕ) → Each (λ v. v < 512) (toVisit g n on)
+  pub visit-low : (on : List ℕ) → Each (λ v. v < 32) (toVisit g n on)
   visit-low [] = tt
   visit-low (x ∷ on) = each-map (λ v (h : (v < g .worlds) × (edge g (n .world) v ≡ true)). omega (arith, h .0, d .count, d .room)) (unvisited g n) (unvisited-each g n)
 

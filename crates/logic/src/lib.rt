@@ -19,6 +19,7 @@ use necessities::spawner_at;
 use necessities::store;
 use necessities::turn;
 use necessities::visit;
+use necessities::visited_at;
 use necessities::world_at;
 use subtree::Counts;
 use subtree::ProofSubtree;
@@ -49,7 +50,7 @@ ghost use Rattle.graph.specs.Drawn.{Drawn};
 ghost use Rattle.graph.specs.Logic.{logicOf};
 ghost use Rattle.definition.proofs.Growing.{Steady};
 ghost use Rattle.tree.specs.Lay.{lay, Held};
-ghost use Rattle.necessities.specs.Stored.{InRow, Row};
+ghost use Rattle.necessities.specs.Stored.{InWord};
 ghost use Rattle.necessities.specs.Stack.{Stack, fresh, visits};
 ghost use Rattle.subtree.specs.Rows as subtrees;
 ghost use Rattle.subtree.specs.Subtree.{subtreeOf, Within, Left};
@@ -140,23 +141,22 @@ pub struct Sizes {
     pub necessities: usize,
 }
 
-// The worlds that the necessity of row k, in world u, has still to visit; none where no path is its own.
+// The worlds that a necessity in world u, which has visited these, has still to visit; none where no path is its own.
 fn worlds_to_visit(
     edges: &[u8; 625],
     worlds: usize,
-    visited: &[u32; 8192],
-    k: usize,
+    visited: u32,
     u: PossibleWorld,
     m: usize,
     out: &mut [u16; 512],
 ) -> usize
-    ensures { λ r. ⌜ ((g : Graph) (n : Necessity) (on : List ℕ) → n .world ≡ u .0 → Drawn g worlds (now (edges .entry)) → InRow k (n .visited) (now (visited .entry)) → length on ≡ m → Listed [] 0 (now (out .entry))
+    ensures { λ r. ⌜ ((g : Graph) (n : Necessity) (on : List ℕ) → n .world ≡ u .0 → Drawn g worlds (now (edges .entry)) → InWord (n .visited) visited → length on ≡ m → Listed [] 0 (now (out .entry))
         → Listed (cond (empty on) [] (unvisited g n)) r (now (out .exit))) ⌝ }
 {
     if m == 0 {
         return 0;
     }
-    unvisited(edges, worlds, visited, k, u, out, 0)
+    unvisited(edges, worlds, visited, u, out, 0)
 }
 
 // The necessity of row k, i below the top, is given on its paths, and has then visited those worlds.
@@ -167,7 +167,7 @@ pub fn reapply_necessity(
     edges: &[u8; 625],
     worlds: usize,
     rows: &[u16; 1536],
-    visited: &mut [u32; 8192],
+    visited: &mut [u32; 512],
     k: usize,
     forking: Forking,
     on: &[u16; 512],
@@ -183,7 +183,8 @@ pub fn reapply_necessity(
         × Stack (set ns i (visiting t g (getD ns i none))) c order (now (rows .entry)) leafBits (now (visited .exit))) ⌝ }
 {
     let mut ws = [0u16; 512];
-    let n = worlds_to_visit(edges, worlds, visited, k, world_at(rows, k), m, &mut ws);
+    let seen = visited_at(visited, k);
+    let n = worlds_to_visit(edges, worlds, seen, world_at(rows, k), m, &mut ws);
     let f = formula_at(rows, k);
     let made = give_on(
         tree,
@@ -212,7 +213,7 @@ fn reapply_if_on_path(
     worlds: usize,
     rows: &[u16; 1536],
     leafs: &[u32; 8192],
-    visited: &mut [u32; 8192],
+    visited: &mut [u32; 512],
     k: usize,
     node: ProofTreeNodeID,
     world: PossibleWorld,
@@ -266,7 +267,7 @@ fn reapply_necessity_after_possibility(
     worlds: usize,
     rows: &[u16; 1536],
     leafs: &[u32; 8192],
-    visited: &mut [u32; 8192],
+    visited: &mut [u32; 512],
     order: &mut [u16; 512],
     c: usize,
     node: ProofTreeNodeID,
@@ -342,7 +343,7 @@ fn store_necessity(
     m: usize,
     rows: &mut [u16; 1536],
     leafs: &mut [u32; 8192],
-    visited: &mut [u32; 8192],
+    visited: &mut [u32; 512],
     order: &mut [u16; 512],
 ) -> usize
     ensures { λ r. ⌜ ((s : State) (q ea wa : List ℕ) → Before p (now (tree .entry)) ea (now (rows .entry)) (now (leafs .entry)) (now (visited .entry)) (now (order .entry)) wa s q
@@ -376,7 +377,7 @@ pub fn apply_necessity(
     edges: &mut [u8; 625],
     rows: &mut [u16; 1536],
     leafs: &mut [u32; 8192],
-    visited: &mut [u32; 8192],
+    visited: &mut [u32; 512],
     order: &mut [u16; 512],
     wait: &mut [u16; 512],
 ) -> Sizes
@@ -495,7 +496,7 @@ pub fn apply_possibility(
     edges: &mut [u8; 625],
     rows: &mut [u16; 1536],
     leafs: &mut [u32; 8192],
-    visited: &mut [u32; 8192],
+    visited: &mut [u32; 512],
     order: &mut [u16; 512],
     wait: &mut [u16; 512],
 ) -> Sizes

@@ -21,7 +21,7 @@ ghost use Rattle.definition.specs.Tree.{Node, nodeAt, newNode, path, leaves};
 ghost use Rattle.definition.specs.Modality.{Necessity, Fork, runsThrough, forkedOn, occurs, unvisited, leavesOf, isReapplied};
 ghost use Rattle.graph.specs.Drawn.{Drawn};
 ghost use Rattle.tree.specs.Lay.{Held};
-ghost use Rattle.necessities.specs.Stored.{InRow, Row};
+ghost use Rattle.necessities.specs.Stored.{InRow, InWord};
 ghost use Rattle.modality.specs.Stands.{Stands};
 ghost use Rattle.modality.specs.Forking.{forkOf};
 
@@ -44,6 +44,16 @@ pub fn row_contains(words: &[u32; 8192], k: usize, y: u16) -> bool
         return false;
     }
     bits::contains(words, k * 512 + at)
+}
+
+// The word has the bit of y.
+fn word_contains(word: u32, y: u16) -> bool
+    ensures { λ r. ⌜ ((l : List ℕ) → InWord l word → r ≡ elem y l) ⌝ }
+{
+    if 32 <= y {
+        return false;
+    }
+    bits::bit(word, y as usize)
 }
 
 // The parent of x in the tree as it stood, when it had `base` nodes.
@@ -246,30 +256,23 @@ pub fn is_reapplied(
     false
 }
 
-// u reaches v, and v is not visited in row k.
-fn is_unvisited(
-    edges: &[u8; 625],
-    visited: &[u32; 8192],
-    k: usize,
-    u: PossibleWorld,
-    v: PossibleWorld,
-) -> bool
-    ensures { λ r. ⌜ ((g : Graph) (w : ℕ) (l : List ℕ) → Drawn g w (now (edges .entry)) → InRow k l (now (visited .entry)) → r ≡ (edge g (u .0) (v .0) && not (elem (v .0) l))) ⌝ }
+// u reaches v, and v is not one of the worlds visited.
+fn is_unvisited(edges: &[u8; 625], visited: u32, u: PossibleWorld, v: PossibleWorld) -> bool
+    ensures { λ r. ⌜ ((g : Graph) (w : ℕ) (l : List ℕ) → Drawn g w (now (edges .entry)) → InWord l visited → r ≡ (edge g (u .0) (v .0) && not (elem (v .0) l))) ⌝ }
 {
-    graph::contains(edges, u, v) && !row_contains(visited, k, v.0)
+    graph::contains(edges, u, v) && !word_contains(visited, v.0)
 }
 
-// The worlds that u reaches and that are not visited in row k, rising.
+// The worlds that u reaches and that are not visited, rising.
 pub fn unvisited(
     edges: &[u8; 625],
     worlds: usize,
-    visited: &[u32; 8192],
-    k: usize,
+    visited: u32,
     u: PossibleWorld,
     out: &mut [u16; 512],
     c: usize,
 ) -> usize
-    ensures { λ r. ⌜ ((g : Graph) (n : Necessity) (l : List ℕ) → n .world ≡ u .0 → Drawn g worlds (now (edges .entry)) → InRow k (n .visited) (now (visited .entry)) → Listed l c (now (out .entry)) → Listed (l ++ unvisited g n) r (now (out .exit))) ⌝ }
+    ensures { λ r. ⌜ ((g : Graph) (n : Necessity) (l : List ℕ) → n .world ≡ u .0 → Drawn g worlds (now (edges .entry)) → InWord (n .visited) visited → Listed l c (now (out .entry)) → Listed (l ++ unvisited g n) r (now (out .exit))) ⌝ }
 {
     if 25 < worlds {
         return c;
@@ -278,7 +281,7 @@ pub fn unvisited(
     let mut v: usize = 0;
     while v < worlds {
         let w = v as u16;
-        let gives = is_unvisited(edges, visited, k, u, PossibleWorld(w));
+        let gives = is_unvisited(edges, visited, u, PossibleWorld(w));
         n = push_if(out, n, w, gives);
         v += 1;
     }

@@ -18,18 +18,23 @@ use Rattle.definition.specs.Tree.{Node}
 use Rattle.definition.specs.Modality.{Necessity, visiting, leavesOf, unvisited}
 use Rattle.definition.proofs.Lists.{each-map, each-get, each-reverse}
 use Rattle.definition.proofs.Issued.{distinct-reverse}
-use Rattle.necessities.specs.Stored.{Row}
+use Rattle.necessities.specs.Stored.{InWord, Row}
 use Rattle.necessities.specs.Change.{Kept, Added}
 use Rattle.necessities.specs.Stack.{Rows, Stack, fresh, visits}
 use Rattle.necessities.proofs.Tables.{kept-same, kept-then, clear-kept, clear-here}
+use Rattle.necessities.proofs.Words.{word-zero}
 use Rattle.necessities.proofs.Turned.{get-reverse}
 
 -- from r to t the numbers of every row but row k stay
 abbrev pub NumbersKept : ℕ → List ℕ → List ℕ → Type 0
 NumbersKept k r t = (p : ℕ) → p / 3 ≢ k → getD t p 0 ≡ getD r p 0
 
+-- from v to u every word but word k stays
+abbrev WordsKept : ℕ → List ℕ → List ℕ → Type 0
+WordsKept k v u = (j : ℕ) → j ≢ k → getD u j 0 ≡ getD v j 0
+
 -- ---- a change of row k leaves every other row
-module _ (k : ℕ) (r a v r′ a′ v′ : List ℕ) (numbers : NumbersKept k r r′) (leaves : Kept k a a′) (worlds : Kept k v v′) where
+module _ (k : ℕ) (r a v r′ a′ v′ : List ℕ) (numbers : NumbersKept k r r′) (leaves : Kept k a a′) (worlds : WordsKept k v v′) where
   row-other : (n : Necessity) (j : ℕ) → j ≢ k → Row n j r a v → Row n j r′ a′ v′
   row-other n j e h =
       record {
@@ -37,7 +42,7 @@ module _ (k : ℕ) (r a v r′ a′ v′ : List ℕ) (numbers : NumbersKept k r 
         world = numbers (j * 3 + 1) (λ s. e (omega arith)) ∙ h .world;
         spawner = numbers (j * 3 + 2) (λ s. e (omega arith)) ∙ h .spawner;
         leaves = leaves .others j (n .leaves) e (h .leaves);
-        worlds = worlds .others j (n .visited) e (h .worlds);
+        worlds = rw (worlds j e) (h .worlds);
       }
 
   rows-other : (ns : List Necessity) (ks : List ℕ) → Each (λ j. j ≢ k) ks → Rows ns ks r a v → Rows ns ks r′ a′ v′
@@ -47,7 +52,7 @@ module _ (k : ℕ) (r a v r′ a′ v′ : List ℕ) (numbers : NumbersKept k r 
   rows-other (n ∷ ns) (j ∷ ks) e h = (row-other n j (e .0) (h .0), rows-other ns ks (e .1) (h .1))
 
 -- ---- the empty stack
-pub stack-none : Stack [] 0 (replicate 512 0) (replicate 1536 0) (replicate 8192 0) (replicate 8192 0)
+pub stack-none : Stack [] 0 (replicate 512 0) (replicate 1536 0) (replicate 8192 0) (replicate 512 0)
 stack-none =
     record {
       ks = [];
@@ -59,7 +64,7 @@ stack-none =
       stored = tt;
       rowsLong = length-replicate {A = ℕ} 1536 0;
       leavesLong = length-replicate {A = ℕ} 8192 0;
-      visitedLong = length-replicate {A = ℕ} 8192 0;
+      visitedLong = length-replicate {A = ℕ} 512 0;
     }
 
 -- ---- reads
@@ -130,7 +135,7 @@ pub stack-store : {ns : List Necessity} {count : ℕ} {o r a v o′ r′ a₁ a�
     → (count < 512 → r′ ≡ set (set (set r (count * 3) f) (count * 3 + 1) w) (count * 3 + 2) x)
     → ((p : ℕ → Bool) → Bits p a → Bits (λ j. not (eqb (j / 512) count) && p j) a₁)
     → Added count l a₁ a₂
-    → ((p : ℕ → Bool) → Bits p v → Bits (λ j. not (eqb (j / 512) count) && p j) v′)
+    → v′ ≡ set v count 0
     → ((u : List ℕ) → Listed u count o → Listed (u ++ (count ∷ [])) c o′)
     → Stack (fresh f w x l ∷ ns) c o′ r′ a₂ v′
 unfolding fresh
@@ -143,7 +148,7 @@ stack-store {ns} {count} {o} {r} {a} {v} {o′} {r′} {a₁} {a₂} {v′} {l} 
     let more : c ≡ n + 1 = sym (listed-count order fits) ∙ long in
     let free : Each (λ j. j ≢ n) (s .ks) = each-map {Q = λ j. j ≢ n} (λ j (b : j < n) e. omega arith) (s .ks) (s .used) in
     let kept : Kept n a a₂ = kept-then (clear-kept n a a₁ cleared) (filled .kept) in
-    let worlds : Kept n v v′ = clear-kept n v v′ emptied in
+    let worlds : WordsKept n v (set v n 0) = λ j e. getD-set-other v n j 0 0 e in
     record {
       ks = n ∷ s .ks;
       room = fits;
@@ -152,53 +157,62 @@ stack-store {ns} {count} {o} {r} {a} {v} {o′} {r′} {a₁} {a₂} {v′} {l} 
       used = (omega arith, each-map {Q = λ j. j < c} (λ j (b : j < n). omega arith) (s .ks) (s .used));
       apart = (free, s .apart);
       stored =
-          rw q (
+          rw (q, emptied) (
             record {
               formula = put-formula n f w x r h (s .rowsLong);
               world = put-world n f w x r h (s .rowsLong);
               spawner = put-spawner n f w x r h (s .rowsLong);
               leaves = filled .here [] (clear-here n a a₁ cleared h (s .leavesLong));
-              worlds = clear-here n v v′ emptied h (s .visitedLong);
+              worlds = rw (getD-set-same v n 0 0 (omega (arith, h, s .visitedLong))) word-zero;
             },
-            rows-other n r a v (put n f w x r h (s .rowsLong)) a₂ v′ (put-kept n f w x r h (s .rowsLong)) kept worlds ns (s .ks) free (s .stored),
+            rows-other n r a v (put n f w x r h (s .rowsLong)) a₂ (set v n 0) (put-kept n f w x r h (s .rowsLong)) kept worlds ns (s .ks) free (s .stored),
           );
       rowsLong = ap length q ∙ put-long n f w x r h (s .rowsLong);
       leavesLong = kept .long (s .leavesLong);
-      visitedLong = worlds .long (s .visitedLong);
+      visitedLong = ap length emptied ∙ length-set v n 0 ∙ s .visitedLong;
     }
 
 -- ---- more worlds visited
-module _ (r a v v′ l : List ℕ) (none : Necessity) where
-  row-visits : (n : Necessity) (k : ℕ) → Added k l v v′ → Row n k r a v → Row (visits n l) k r a v′
+module _ (r a v l : List ℕ) (word : ℕ) (long : length v ≡ 512) (none : Necessity) where
+  row-visits : (n : Necessity) (k : ℕ) → (InWord (n .visited) (getD v k 0) → InWord (n .visited ++ l) word) → Row n k r a v → Row (visits n l) k r a (set v k word)
   unfolding visits
   row-visits n k p h =
-      record { formula = h .formula; world = h .world; spawner = h .spawner; leaves = h .leaves; worlds = p .here (n .visited) (h .worlds) }
+      let e : getD (set v k word) k 0 ≡ word = getD-set-same v k word 0 (omega (arith, h .leaves .row, long)) in
+      record { formula = h .formula; world = h .world; spawner = h .spawner; leaves = h .leaves; worlds = rw e (p (h .worlds)) }
 
-  rows-visit : (ns : List Necessity) (ks : List ℕ) (i : ℕ) → i < length ks → Distinct ks → Added (getD ks i 0) l v v′ → Rows ns ks r a v → Rows (set ns i (visits (getD ns i none) l)) ks r a v′
+  words-other : (k : ℕ) → WordsKept k v (set v k word)
+  words-other k j e = getD-set-other v k j word 0 e
+
+  rows-visit : (ns : List Necessity) (ks : List ℕ) (i : ℕ) → i < length ks → Distinct ks → ((old : List ℕ) → InWord old (getD v (getD ks i 0) 0) → InWord (old ++ l) word)
+      → Rows ns ks r a v → Rows (set ns i (visits (getD ns i none) l)) ks r a (set v (getD ks i 0) word)
   rows-visit [] [] i b d p h = tt
   rows-visit [] (k ∷ ks) i b d p h = h
   rows-visit (n ∷ ns) [] i b d p h = absurd h
   rows-visit (n ∷ ns) (k ∷ ks) zero b d p h =
-      (row-visits n k p (h .0), rows-other k r a v r a v′ (λ q e. refl) (kept-same k a) (p .kept) ns ks (d .0) (h .1))
+      (row-visits n k (p (n .visited)) (h .0), rows-other k r a v r a (set v k word) (λ q e. refl) (kept-same k a) (words-other k) ns ks (d .0) (h .1))
   rows-visit (n ∷ ns) (k ∷ ks) (suc i) b d p h =
       let e : getD ks i 0 ≢ k = each-get (λ y. y ≢ k) ks 0 (d .0) i (λ g. absurd (omega arith)) in
-      (row-other (getD ks i 0) r a v r a v′ (λ q e. refl) (kept-same (getD ks i 0) a) (p .kept) n k (λ q. e (sym q)) (h .0), rows-visit ns ks i (omega arith) (d .1) p (h .1))
+      let j : ℕ = getD ks i 0 in
+      (row-other j r a v r a (set v j word) (λ q e. refl) (kept-same j a) (words-other j) n k (λ q. e (sym q)) (h .0), rows-visit ns ks i (omega arith) (d .1) p (h .1))
 
-pub stack-visit : {ns : List Necessity} {count : ℕ} {o r a v v′ : List ℕ} (l : List ℕ) (none : Necessity) (i k : ℕ) (s : Stack ns count o r a v) → i < count → k ≡ getD (s .ks) i 0
-    → Added k l v v′ → Stack (set ns i (visits (getD ns i none) l)) count o r a v′
-stack-visit {ns} {count} {o} {r} {a} {v} {v′} l none i k s h e p =
-    record {
-      ks = s .ks;
-      room = s .room;
-      counted = s .counted;
-      listed = s .listed;
-      used = s .used;
-      apart = s .apart;
-      stored = rows-visit r a v v′ l none ns (s .ks) i (omega (arith, s .counted)) (s .apart) (rw e at p) (s .stored);
-      rowsLong = s .rowsLong;
-      leavesLong = s .leavesLong;
-      visitedLong = p .kept .long (s .visitedLong);
-    }
+module _ {ns : List Necessity} {count : ℕ} {o r a v : List ℕ} (i k : ℕ) (none : Necessity) (s : Stack ns count o r a v) (low : i < count) (is : k ≡ getD (s .ks) i 0) where
+  pub visit-inside : k < 512
+  visit-inside = rw is (stack-row s none i low .leaves .row)
+
+  pub stack-visit : (l : List ℕ) (word : ℕ) → ((old : List ℕ) → InWord old (getD v k 0) → InWord (old ++ l) word) → Stack (set ns i (visits (getD ns i none) l)) count o r a (set v k word)
+  stack-visit l word p =
+      record {
+        ks = s .ks;
+        room = s .room;
+        counted = s .counted;
+        listed = s .listed;
+        used = s .used;
+        apart = s .apart;
+        stored = rw is (rows-visit r a v l word (s .visitedLong) none ns (s .ks) i (omega (arith, s .counted)) (s .apart) (rw is at p) (s .stored));
+        rowsLong = s .rowsLong;
+        leavesLong = s .leavesLong;
+        visitedLong = length-set v k word ∙ s .visitedLong;
+      }
 
 -- ---- the stack turned round
 pub stack-turn : {ns : List Necessity} {count : ℕ} {o o′ r a v : List ℕ} → ((l : List ℕ) → Listed l count o → Listed (reverse l) count o′) → Stack ns count o r a v → Stack (reverse ns) count o′ r a v

@@ -18,7 +18,7 @@ use Rattle.definition.proofs.Lists.{each-get}
 use Rattle.necessities.specs.Stored.{InRow}
 use Rattle.necessities.specs.Change.{Kept, Added}
 
-elem-append : (y : ℕ) (l m : List ℕ) → elem y (l ++ m) ≡ (elem y l || elem y m)
+pub elem-append : (y : ℕ) (l m : List ℕ) → elem y (l ++ m) ≡ (elem y l || elem y m)
 elem-append y [] m = refl
 elem-append y (x ∷ l) m = go (eqb y x) (elem-append y l m)
   where
@@ -26,7 +26,7 @@ elem-append y (x ∷ l) m = go (eqb y x) (elem-append y l m)
     go true e = refl
     go false e = e
 
-or-last : (a b : Bool) → (a || (b || false)) ≡ (b || a)
+pub or-last : (a b : Bool) → (a || (b || false)) ≡ (b || a)
 or-last true true = refl
 or-last true false = refl
 or-last false true = refl

@@ -26,7 +26,7 @@ pub record Stack (ns : List Necessity) (count : ℕ) (order rows leafBits visite
   pub stored : Rows ns ks rows leafBits visited
   pub rowsLong : length rows ≡ 1536
   pub leavesLong : length leafBits ≡ 8192
-  pub visitedLong : length visited ≡ 8192
+  pub visitedLong : length visited ≡ 512
 
 -- a necessity that has visited no world
 unfoldable pub fresh : ℕ → ℕ → ℕ → List ℕ → Necessity

@@ -1,11 +1,11 @@
--- Stored necessities: row k of three tables. Of `rows` it has three numbers (formula, world, spawner), of the leaves and of the visited worlds 512 bits.
+-- Stored necessities: row k of three tables. Of `rows` it has three numbers (formula, world, spawner), of the leaves 512 bits, of the visited worlds one word.
 use Prim.Native.Nat.{ℕ, _+_, _*_, _<_}
 use mathlib.Core.Path.{_≡_}
 use mathlib.Core.Bool.{_&&_}
 use mathlib.Core.List.{List}
 use lib.Dec.{ltb}
 use lib.ListN.{length, getD}
-use Rattle.bits.specs.Bits.{bitAt}
+use Rattle.bits.specs.Bits.{bitOf, bitAt}
 use Rattle.definition.specs.Lists.{elem}
 use Rattle.definition.specs.Modality.{Necessity}
 
@@ -15,10 +15,14 @@ pub record InRow (k : ℕ) (l : List ℕ) (words : List ℕ) : Type 0 where
   pub long : length words ≡ 8192
   pub same : (y : ℕ) → (ltb y 512 && bitAt words (k * 512 + y)) ≡ elem y l
 
+-- the word has the bits of the numbers of the list, which are below 32
+pub record InWord (l : List ℕ) (word : ℕ) : Type 0 where
+  pub same : (y : ℕ) → (ltb y 32 && bitOf word y) ≡ elem y l
+
 -- row k has the necessity
 pub record Row (n : Necessity) (k : ℕ) (rows leafBits visited : List ℕ) : Type 0 where
   pub formula : getD rows (k * 3) 0 ≡ n .formula
   pub world : getD rows (k * 3 + 1) 0 ≡ n .world
   pub spawner : getD rows (k * 3 + 2) 0 ≡ n .spawner
   pub leaves : InRow k (n .leaves) leafBits
-  pub worlds : InRow k (n .visited) visited
+  pub worlds : InWord (n .visited) (getD visited k 0)

@@ -4,17 +4,18 @@ use arrays::nth;
 use arrays::push;
 use bits::clear_row;
 use bits::insert;
+use bits::with_bit;
 use formula::FormulaNumber;
 use graph::PossibleWorld;
 use tree::ProofTreeNodeID;
 ghost use mathlib.Core.Path.{_≡_};
-ghost use mathlib.Core.List.{List, _∷_, reverse};
+ghost use mathlib.Core.List.{List, _∷_, _++_, reverse};
 ghost use Prim.Native.Nat.{ℕ, _+_, _*_, _≤_, _<_};
 ghost use lib.ListN.{getD, set};
 ghost use Rattle.arrays.specs.Listed.{Listed};
 ghost use Rattle.definition.specs.Lists.{Each};
 ghost use Rattle.definition.specs.Modality.{Necessity};
-ghost use Rattle.necessities.specs.Stored.{Row};
+ghost use Rattle.necessities.specs.Stored.{InWord, Row};
 ghost use Rattle.necessities.specs.Change.{Added};
 ghost use Rattle.necessities.specs.Stack.{Stack, fresh, visits};
 
@@ -47,6 +48,16 @@ pub fn spawner_at(rows: &[u16; 1536], k: usize) -> ProofTreeNodeID
     ensures { λ r. ⌜ ((n : Necessity) (leafBits visited : List ℕ) → Row n k (now (rows .entry)) leafBits visited → r .0 ≡ n .spawner) ⌝ }
 {
     ProofTreeNodeID(number(rows, k, 2))
+}
+
+// The worlds that the necessity of row k has visited, one bit each.
+pub fn visited_at(visited: &[u32; 512], k: usize) -> u32
+    ensures { λ r. ⌜ ((n : Necessity) (rows leafBits : List ℕ) → Row n k rows leafBits (now (visited .entry)) → InWord (n .visited) r) ⌝ }
+{
+    if 512 <= k {
+        return 0;
+    }
+    visited[k]
 }
 
 // Stores the numbers of row k.
@@ -96,7 +107,7 @@ pub fn store(
     count: usize,
     rows: &mut [u16; 1536],
     leaf_bits: &mut [u32; 8192],
-    visited: &mut [u32; 8192],
+    visited: &mut [u32; 512],
     formula: FormulaNumber,
     world: PossibleWorld,
     spawner: ProofTreeNodeID,
@@ -113,17 +124,32 @@ pub fn store(
     put_row(rows, count, formula, world, spawner);
     clear_row(leaf_bits, count);
     insert_all(leaf_bits, count, leaves, m);
-    clear_row(visited, count);
+    visited[count] = 0;
     push(order, count, count as u16)
 }
 
+// The word with the bits of the listed numbers, each below 32.
+fn with_bits(word: u32, list: &[u16; 512], m: usize) -> u32
+    ensures { λ r. ⌜ ((old l : List ℕ) → Listed l m (now (list .entry)) → m ≤ 512 → Each (λ x. x < 32) l → InWord old word → InWord (old ++ l) r) ⌝ }
+{
+    let mut more = word;
+    for j in 0..m {
+        more = with_bit(more, nth(list, j) as usize);
+    }
+    more
+}
+
 // The necessity of row k, which stands i below the top, has visited the listed worlds too.
-pub fn visit(visited: &mut [u32; 8192], k: usize, list: &[u16; 512], m: usize)
+pub fn visit(visited: &mut [u32; 512], k: usize, list: &[u16; 512], m: usize)
     ensures { λ r. ⌜ ((ns : List Necessity) (count i : ℕ) (order rows leafBits l : List ℕ) (none : Necessity) (s : Stack ns count order rows leafBits (now (visited .entry))) → i < count → k ≡ getD (s .ks) i 0
-        → Listed l m (now (list .entry)) → m ≤ 512 → Each (λ x. x < 512) l
+        → Listed l m (now (list .entry)) → m ≤ 512 → Each (λ x. x < 32) l
         → Stack (set ns i (visits (getD ns i none) l)) count order rows leafBits (now (visited .exit))) ⌝ }
 {
-    insert_all(visited, k, list, m);
+    if 512 <= k {
+        return;
+    }
+    let word = visited[k];
+    visited[k] = with_bits(word, list, m);
 }
 
 // The first n entries in the opposite order.

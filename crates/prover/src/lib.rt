@@ -157,7 +157,7 @@ fn run(branch: &[u8], flags: u8, nodes: &mut [u8], formulas: &mut [u8], edges: &
     let mut graph = [0u8; 625];
     let mut rows = [0u16; 1536];
     let mut leaves = [0u32; 8192];
-    let mut visited = [0u32; 8192];
+    let mut visited = [0u32; 512];
     let mut order = [0u16; 512];
     let mut wait = [0u16; 512];
     let mut classes = [0u16; 512];

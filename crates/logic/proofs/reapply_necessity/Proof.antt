@@ -8,6 +8,9 @@ use Rattle.logic.proofs.Reapply.{row-as, visit-fits, visit-low, gave-ag
 use Rattle.logic.proofs.reapply_necessity.Statement.{statement}
 use Rattle.logic.proofs.reapply_necessity.Tie as tie
 
+visited-at-requires : tie.Need-visited-at-requires
+visited-at-requires c κs = search needs
+
 world-at-requires : tie.Need-world-at-requires
 world-at-requires c κs = search needs
 
@@ -30,7 +33,7 @@ returns : tie.Need-returns
 returns c = λ t more g ns none rs n i order leafBits s low is d b l small h list.
     let nec = getD ns i none in
     let row = row-as (sym is) (stack-row s none i low) in
-    let ws = c .before .before .before .before .before .before .before .before .before .worlds-to-visit .ensures g nec (leavesOf t nec) (sym (c .before .before .before .before .before .before .before .before .before .before .before .world-at .ensures nec _ _ row)) d (row .worlds) (listed-count l small) listed-none in
+    let ws = c .before .before .before .before .before .before .before .before .before .worlds-to-visit .ensures g nec (leavesOf t nec) (sym (c .before .before .before .before .before .before .before .before .before .before .before .world-at .ensures nec _ _ row)) d (c .before .before .before .before .before .before .before .before .before .before .before .before .visited-at .ensures nec _ _ row) (listed-count l small) listed-none in
     let fits = visit-fits g nec d (leavesOf t nec) ws in (
       gave-again t _ g nec
           (c .before .before .before .give-on .ensures t more nec _ _ rs (sym (c .before .before .before .before .before .before .spawner-at .ensures nec _ _ row)) (sym (c .before .before .before .before .before .before .before .before .formula-at .ensures nec _ _ row)) b ws fits l small h list),
@@ -38,4 +41,4 @@ returns c = λ t more g ns none rs n i order leafBits s low is d b l small h lis
     )
 
 pub reapply-necessity-spec : {M : Type 1} → statement M
-reapply-necessity-spec = tie.close (tie.spec world-at-requires worlds-to-visit-requires formula-at-requires spawner-at-requires give-on-requires visit-requires returns)
+reapply-necessity-spec = tie.close (tie.spec visited-at-requires world-at-requires worlds-to-visit-requires formula-at-requires spawner-at-requires give-on-requires visit-requires returns)

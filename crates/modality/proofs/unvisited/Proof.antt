@@ -11,7 +11,7 @@ use Rattle.definition.specs.Modality.{Necessity}
 use Rattle.definition.proofs.Issued.{length-from}
 use Rattle.graph.specs.Drawn.{Drawn}
 use Rattle.tree.proofs.Paths.{listed-as}
-use Rattle.necessities.specs.Stored.{InRow}
+use Rattle.necessities.specs.Stored.{InWord}
 use Rattle.modality.proofs.Lists.{below-get}
 use Rattle.modality.proofs.Fill.{fill-start, fill-next, fill-end}
 use Rattle.modality.proofs.Give.{fresh, unvisited-by}
@@ -19,10 +19,10 @@ use Rattle.modality.proofs.unvisited.Statement.{statement}
 use Rattle.modality.proofs.unvisited.Tie as tie
 
 abbrev Inv-loop : tie.InvT-loop
-Inv-loop edges worlds visited k u out₀ c n₀ v₀ out n v = (v ≤ worlds) × ((g : Graph) (s : Necessity) (l : List ℕ) → s .world ≡ u .0 → Drawn g worlds edges → InRow k (s .visited) visited → Listed l c out₀ → Listed (l ++ filter (fresh g (u .0) (s .visited)) (take v (below worlds))) n out)
+Inv-loop edges worlds visited u out₀ c n₀ v₀ out n v = (v ≤ worlds) × ((g : Graph) (s : Necessity) (l : List ℕ) → s .world ≡ u .0 → Drawn g worlds edges → InWord (s .visited) visited → Listed l c out₀ → Listed (l ++ filter (fresh g (u .0) (s .visited)) (take v (below worlds))) n out)
 
 abbrev μ-loop : tie.MeasureT-loop
-μ-loop edges worlds visited k u out₀ c n₀ v₀ out n v = worlds - v
+μ-loop edges worlds visited u out₀ c n₀ v₀ out n v = worlds - v
 
 returns : tie.Need-returns Inv-loop μ-loop
 returns c = λ g s l e d r p. absurd (omega (arith, d .room, c .if1 .taken))
