@@ -1,4 +1,4 @@
--- The sequence of the nodes' identifiers. Its number n is the identifier that is next, which is how many are issued; 513 says that there is no room.
+-- The sequence of the nodes' identifiers. Its number n is the identifier that is next, which is how many are issued; 513 says that a draw found no room.
 use Prim.Native.Nat.{ℕ, _+_}
 use mathlib.Core.Bool.{cond}
 use lib.Dec.{leb}

@@ -38,7 +38,7 @@ impl ProofTreeNodeID {
     }
 }
 
-// The sequence that every identifier is drawn from: how many are issued, which is the one that is next; 513 where there is no room.
+// The sequence that every identifier is drawn from: how many are issued, which is the one that is next; 513 after a draw that found no room.
 pub struct ProofTreeNodeIDSequence {
     issued: usize,
 }
@@ -197,13 +197,6 @@ fn put_field(tree: &mut [u16; 4608], len: usize, x: ProofTreeNodeID, j: usize, v
         return;
     }
     tree[i * 9 + j] = v;
-}
-
-// The table of no node.
-pub fn empty_table() -> [u16; 4608]
-    ensures { λ r. ⌜ Held [] 0 r ⌝ }
-{
-    [65535u16; 4608]
 }
 
 // One node more, not in the tree yet, whose identifier is the old count; 513 where there is no room.
