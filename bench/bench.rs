@@ -135,7 +135,7 @@ fn measure(input : &Input, results : &mut impl std::io::Write) -> Result<Timed, 
     {
         if !matches!(first, Answer::Refused(1..=11)) { return Err(format!("{first:?} is no refusal 1 to 11: {}", input.line)) }
     }
-    else
+    else if input.family != "worst" //the Rust takes minutes
     {
         let branch = input::branch_of(&input.bytes).map_err(|e| format!("{e}: {}", input.line))?;
         let (theirs, time) = rust(input, &branch);

@@ -2,13 +2,21 @@
 use crate::bytes::byte;
 use crate::bytes::two;
 use crate::bytes::wide;
+ghost use mathlib.Core.Path.{_≡_};
+ghost use mathlib.Core.List.{[], _∷_, _++_};
+ghost use Prim.Native.Nat.{_+_, _%_, _<_};
+ghost use lib.ListN.{getD};
+ghost use Rattle.cases.specs.Bytes.{twoAt};
+ghost use Rattle.cases.specs.Text.{Fed, digestOf, decimal, numberOrNone, letterOf, hasOne, nameOf, LinksAt, formulaText, formulaOrComment, nodeLine, nodeLines, edgeLine, edgesFrom, textOf};
 
 pub struct Digest {
     pub first: u64,
     pub second: u64,
 }
 
-fn add(d: Digest, b: u8) -> Digest {
+fn add(d: Digest, b: u8) -> Digest
+    ensures { λ r. ⌜ Fed d (b ∷ []) r ⌝ }
+{
     let n = b as u64;
     let first = d.first % 2147483647 * 257 + n;
     let second = d.second % 2147483629 * 257 + n;
@@ -18,12 +26,16 @@ fn add(d: Digest, b: u8) -> Digest {
     }
 }
 
-fn figure(d: Digest, n: usize) -> Digest {
+fn figure(d: Digest, n: usize) -> Digest
+    ensures { λ r. ⌜ Fed d ((48 + n % 10) ∷ []) r ⌝ }
+{
     add(d, (48 + n % 10) as u8)
 }
 
 // A number in decimal.
-fn number(d: Digest, n: usize) -> Digest {
+fn number(d: Digest, n: usize) -> Digest
+    ensures { λ r. ⌜ Fed d (decimal n) r ⌝ }
+{
     if n < 10 {
         return figure(d, n);
     }
@@ -32,7 +44,9 @@ fn number(d: Digest, n: usize) -> Digest {
 }
 
 // A number of a node, or a dash for none.
-fn number_or_none(d: Digest, n: usize) -> Digest {
+fn number_or_none(d: Digest, n: usize) -> Digest
+    ensures { λ r. ⌜ Fed d (numberOrNone n) r ⌝ }
+{
     if n == 65535 {
         return add(d, b'-');
     }
@@ -40,7 +54,9 @@ fn number_or_none(d: Digest, n: usize) -> Digest {
 }
 
 // The letter of a kind.
-fn letter(kind: u8) -> u8 {
+fn letter(kind: u8) -> u8
+    ensures { λ r. ⌜ r ≡ letterOf kind ⌝ }
+{
     match kind {
         1 => b'N',
         2 => b'C',
@@ -54,87 +70,137 @@ fn letter(kind: u8) -> u8 {
     }
 }
 
-fn has_two(kind: u8) -> bool {
+fn has_one(kind: u8) -> bool
+    ensures { λ r. ⌜ r ≡ hasOne kind ⌝ }
+{
     match kind {
-        2..=6 => true,
-        0..=1 | 7..=255 => false,
+        2..=6 => false,
+        0..=1 | 7..=255 => true,
     }
+}
+
+// The record of a formula: its kind and its two links.
+struct Links {
+    kind: u8,
+    left: usize,
+    right: usize,
+}
+
+fn links_of(tray: &[u8], f: usize) -> Links
+    requires { ⌜ f < 1280 ⌝ }
+    ensures { λ r. ⌜ LinksAt (now (tray .entry)) f (r .kind) (r .left) (r .right) ⌝ }
+{
+    let at = 6 * f;
+    Links {
+        kind: byte(tray, at),
+        left: two(tray, at + 2),
+        right: two(tray, at + 4),
+    }
+}
+
+// An atom, or the letter of a kind.
+fn name(d: Digest, kind: u8, left: usize) -> Digest
+    ensures { λ r. ⌜ Fed d (nameOf kind left) r ⌝ }
+{
+    if kind == 0 {
+        return number(add(d, b'A'), left);
+    }
+    add(d, letter(kind))
 }
 
 // Formula f written out by its links. A link that is not to an earlier record stops.
-fn formula(d: Digest, tray: &[u8], f: usize) -> Digest {
+fn formula(d: Digest, tray: &[u8], f: usize) -> Digest
+    ensures { λ r. ⌜ Fed d (formulaText (now (tray .entry)) f) r ⌝ }
+{
     if 1280 <= f {
         return add(d, b'?');
     }
-    let at = 6 * f;
-    let kind = byte(tray, at);
-    let left = two(tray, at + 2);
-    if kind == 0 {
-        let a = add(d, b'A');
-        return number(a, left);
+    let l = links_of(tray, f);
+    let named = name(d, l.kind, l.left);
+    if l.kind == 0 {
+        return named;
     }
-    let open = add(d, letter(kind));
-    if f <= left {
-        return add(open, b'?');
+    if f <= l.left {
+        return add(named, b'?');
     }
-    let first = formula(add(open, b'('), tray, left);
-    if has_two(kind) {
-        let right = two(tray, at + 4);
-        if f <= right {
-            return add(first, b'?');
-        }
-        let second = formula(add(first, b','), tray, right);
-        return add(second, b')');
+    let first = formula(add(named, b'('), tray, l.left);
+    if has_one(l.kind) {
+        return add(first, b')');
     }
-    add(first, b')')
+    if f <= l.right {
+        return add(first, b'?');
+    }
+    add(formula(add(first, b','), tray, l.right), b')')
 }
 
-fn formula_or_comment(d: Digest, tray: &[u8], f: usize) -> Digest {
+fn formula_or_comment(d: Digest, tray: &[u8], f: usize) -> Digest
+    ensures { λ r. ⌜ Fed d (formulaOrComment (now (tray .entry)) f) r ⌝ }
+{
     if f == 65535 {
         return add(d, b'#');
     }
     formula(d, tray, f)
 }
 
-// Parent, place and world of the node whose record stands at a position.
-fn node_place(d: Digest, nodes: &[u8], at: usize) -> Digest {
-    if nodes.len() <= at {
-        return d;
-    }
-    let a = add(number_or_none(d, two(nodes, at)), b' ');
-    let b = add(number(a, wide(byte(nodes, at + 2))), b' ');
-    add(number(b, wide(byte(nodes, at + 3))), b' ')
+// A byte as a number, and a space.
+fn small(d: Digest, tray: &[u8], i: usize) -> Digest
+    ensures { λ r. ⌜ Fed d (decimal (getD (now (tray .entry)) i 0) ++ (32 ∷ [])) r ⌝ }
+{
+    add(number(d, wide(byte(tray, i))), b' ')
 }
 
-// Its formula, spawner and contrarian.
-fn node_formula(d: Digest, nodes: &[u8], formulas: &[u8], at: usize) -> Digest {
+// The number of a node or none in two bytes, and what ends it.
+fn link(d: Digest, tray: &[u8], i: usize, end: u8) -> Digest
+    ensures { λ r. ⌜ Fed d (numberOrNone (twoAt (now (tray .entry)) i) ++ (end ∷ [])) r ⌝ }
+{
+    add(number_or_none(d, two(tray, i)), end)
+}
+
+// The line of the node whose record stands at a position.
+fn node_line(d: Digest, nodes: &[u8], formulas: &[u8], at: usize) -> Digest
+    ensures { λ r. ⌜ Fed d (nodeLine (now (nodes .entry)) (now (formulas .entry)) at) r ⌝ }
+{
     if nodes.len() <= at {
         return d;
     }
-    let a = add(formula_or_comment(d, formulas, two(nodes, at + 4)), b' ');
-    let b = add(number_or_none(a, two(nodes, at + 6)), b' ');
-    add(number_or_none(b, two(nodes, at + 8)), b'\n')
+    let last = at + 8;
+    let parent = link(d, nodes, at, b' ');
+    let place = small(parent, nodes, at + 2);
+    let world = small(place, nodes, at + 3);
+    let written = formula_or_comment(world, formulas, two(nodes, at + 4));
+    let spawner = link(add(written, b' '), nodes, at + 6, b' ');
+    link(spawner, nodes, last, b'\n')
+}
+
+// The line of an edge, if the lowest bit is set.
+fn edge_line(d: Digest, u: usize, v: usize, bits: u32) -> Digest
+    ensures { λ r. ⌜ Fed d (edgeLine u v bits) r ⌝ }
+{
+    if bits % 2 == 1 {
+        let from = add(number(d, u), b'>');
+        return add(number(from, v), b'\n');
+    }
+    d
 }
 
 // The lines of the edges from world u: bit v of its number says that u reaches v.
-fn row(d: Digest, u: usize, bits: u32) -> Digest {
+fn row(d: Digest, u: usize, bits: u32) -> Digest
+    ensures { λ r. ⌜ Fed d (edgesFrom u bits) r ⌝ }
+{
     let mut text = d;
     let mut rest = bits;
     let mut v: usize = 0;
     while v < 32 {
-        if rest % 2 == 1 {
-            text = number(text, u);
-            text = add(text, b'>');
-            text = number(text, v);
-            text = add(text, b'\n');
-        }
+        text = edge_line(text, u, v, rest);
         rest = rest / 2;
         v += 1;
     }
     text
 }
 
-fn node_lines(nodes: &[u8], formulas: &[u8], identifiers: usize) -> Digest {
+fn node_lines(nodes: &[u8], formulas: &[u8], identifiers: usize) -> Digest
+    ensures { λ r. ⌜ r ≡ digestOf (nodeLines (now (nodes .entry)) (now (formulas .entry)) identifiers) ⌝ }
+{
     let mut text = Digest {
         first: 0,
         second: 0,
@@ -144,15 +210,16 @@ fn node_lines(nodes: &[u8], formulas: &[u8], identifiers: usize) -> Digest {
         if 512 <= i {
             return text;
         }
-        text = node_place(text, nodes, 12 * i);
-        text = node_formula(text, nodes, formulas, 12 * i);
+        text = node_line(text, nodes, formulas, 12 * i);
         i += 1;
     }
     text
 }
 
 // The digest of a run that issued so many identifiers.
-pub fn of_trays(nodes: &[u8], formulas: &[u8], edges: &[u32], identifiers: usize) -> Digest {
+pub fn of_trays(nodes: &[u8], formulas: &[u8], edges: &[u32], identifiers: usize) -> Digest
+    ensures { λ r. ⌜ r ≡ digestOf (textOf (now (nodes .entry)) (now (formulas .entry)) (now (edges .entry)) identifiers) ⌝ }
+{
     let mut text = node_lines(nodes, formulas, identifiers);
     let mut u: usize = 0;
     while u < 25 {

@@ -3,9 +3,14 @@ use crate::bytes::all;
 use crate::bytes::begins;
 use crate::bytes::byte;
 use crate::bytes::two;
+ghost use mathlib.Core.Path.{_≡_};
+ghost use Prim.Native.Nat.{_≤_};
+ghost use Rattle.cases.specs.Lent.{isMarked, areMarked, areMade, isEnded, nodesAgree, formulasAgree, unusedRow, edgesAgree, areZero};
 
 // Byte 10 of the node at a position says whether it has a contrarian; byte 11 is 0.
-fn is_marked(nodes: &[u8], at: usize) -> bool {
+fn is_marked(nodes: &[u8], at: usize) -> bool
+    ensures { λ r. ⌜ r ≡ isMarked (now (nodes .entry)) at ⌝ }
+{
     if nodes.len() <= at {
         return false;
     }
@@ -18,12 +23,12 @@ fn is_marked(nodes: &[u8], at: usize) -> bool {
     byte(nodes, at + 10) == 1
 }
 
-fn are_marked(nodes: &[u8], identifiers: usize) -> bool {
+fn are_marked(nodes: &[u8], identifiers: usize) -> bool
+    requires { ⌜ identifiers ≤ 512 ⌝ }
+    ensures { λ r. ⌜ r ≡ areMarked (now (nodes .entry)) identifiers ⌝ }
+{
     let mut i: usize = 0;
     while i < identifiers {
-        if 512 <= i {
-            return false;
-        }
         if !is_marked(nodes, 12 * i) {
             return false;
         }
@@ -33,12 +38,12 @@ fn are_marked(nodes: &[u8], identifiers: usize) -> bool {
 }
 
 // Made formulas have mark 0.
-fn are_made(formulas: &[u8], from: usize, to: usize) -> bool {
+fn are_made(formulas: &[u8], from: usize, to: usize) -> bool
+    requires { ⌜ to ≤ 1280 ⌝ }
+    ensures { λ r. ⌜ r ≡ areMade (now (formulas .entry)) from to ⌝ }
+{
     let mut i = from;
     while i < to {
-        if 1280 <= i {
-            return false;
-        }
         if byte(formulas, 6 * i + 1) != 0 {
             return false;
         }
@@ -48,14 +53,18 @@ fn are_made(formulas: &[u8], from: usize, to: usize) -> bool {
 }
 
 // What is written ends in zeros, and what lies beyond the tray is as it was lent.
-fn is_ended(tray: &[u8], used: usize, size: usize) -> bool {
+fn is_ended(tray: &[u8], used: usize, size: usize) -> bool
+    ensures { λ r. ⌜ r ≡ isEnded (now (tray .entry)) used size ⌝ }
+{
     if all(tray, used, size, 0) {
         return all(tray, size, tray.len(), 255);
     }
     false
 }
 
-pub fn nodes_agree(nodes: &[u8], identifiers: usize) -> bool {
+pub fn nodes_agree(nodes: &[u8], identifiers: usize) -> bool
+    ensures { λ r. ⌜ r ≡ nodesAgree (now (nodes .entry)) identifiers ⌝ }
+{
     if 512 < identifiers {
         return false;
     }
@@ -65,7 +74,9 @@ pub fn nodes_agree(nodes: &[u8], identifiers: usize) -> bool {
     false
 }
 
-pub fn formulas_agree(formulas: &[u8], branch: &[u8], count: usize) -> bool {
+pub fn formulas_agree(formulas: &[u8], branch: &[u8], count: usize) -> bool
+    ensures { λ r. ⌜ r ≡ formulasAgree (now (formulas .entry)) (now (branch .entry)) count ⌝ }
+{
     if 1280 < count {
         return false;
     }
@@ -78,15 +89,20 @@ pub fn formulas_agree(formulas: &[u8], branch: &[u8], count: usize) -> bool {
     false
 }
 
+// A row that is no world's is 0 in the tray; beyond it, it is as it was lent.
+fn unused_row(u: usize) -> u32
+    ensures { λ r. ⌜ r ≡ unusedRow u ⌝ }
+{
+    if u < 25 { 0 } else { 4294967295 }
+}
+
 // The rows from the first that is no world are 0, and what lies beyond the tray is as it was lent.
-pub fn edges_agree(edges: &[u32], worlds: usize) -> bool {
+pub fn edges_agree(edges: &[u32], worlds: usize) -> bool
+    ensures { λ r. ⌜ r ≡ edgesAgree (now (edges .entry)) worlds ⌝ }
+{
     let mut u = worlds;
     while u < edges.len() {
-        if u < 25 {
-            if edges[u] != 0 {
-                return false;
-            }
-        } else if edges[u] != 4294967295 {
+        if edges[u] != unused_row(u) {
             return false;
         }
         u += 1;
@@ -95,7 +111,9 @@ pub fn edges_agree(edges: &[u32], worlds: usize) -> bool {
 }
 
 // The three lengths are zeroed, and nothing else is written.
-pub fn are_zero(nodes: &[u8], formulas: &[u8], edges: &[u32]) -> bool {
+pub fn are_zero(nodes: &[u8], formulas: &[u8], edges: &[u32]) -> bool
+    ensures { λ r. ⌜ r ≡ areZero (now (nodes .entry)) (now (formulas .entry)) (now (edges .entry)) ⌝ }
+{
     if !is_ended(nodes, 0, 6144) {
         return false;
     }

@@ -30,5 +30,6 @@ pub mod Marked
 pub mod Fresh
 pub mod Below
 pub mod Waiting
+pub mod Spawned
 pub mod Calls
 pub mod Computed

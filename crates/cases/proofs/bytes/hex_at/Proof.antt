@@ -1,19 +1,21 @@
 use Prim.Native.Nat.{_-_}
+use native.Mathlib.Omega.{arith}
 use borrow.Author.Needs.{needs}
+use Rattle.cases.proofs.Hex.{Hexing, hexing-start, hexing-end, hexing-low, hexing-short, hexing-other, hexing-next}
 use Rattle.cases.proofs.bytes.hex_at.Statement.{statement}
 use Rattle.cases.proofs.bytes.hex_at.Tie as tie
 
 abbrev Inv-loop : tie.InvT-loop
-Inv-loop line from n₀ k₀ i₀ n k i = Unit {0}
+Inv-loop line from n₀ k₀ i₀ n k i = Hexing line from n k i
 
 abbrev μ-loop : tie.MeasureT-loop
 μ-loop line from n₀ k₀ i₀ n k i = 8 - k
 
 loop-holds : tie.Need-loop-holds Inv-loop μ-loop
-loop-holds c = tt
+loop-holds c = hexing-start _ _
 
 returns : tie.Need-returns Inv-loop μ-loop
-returns c = tt
+returns c = hexing-short (c .before .before .loop .inv) (c .before .loop-test .taken) (c .if1 .taken)
 
 byte-requires : tie.Need-byte-requires Inv-loop μ-loop
 byte-requires c κs = search needs
@@ -22,13 +24,13 @@ hex-digit-requires : tie.Need-hex-digit-requires Inv-loop μ-loop
 hex-digit-requires c κs = search needs
 
 returns-2 : tie.Need-returns-2 Inv-loop μ-loop
-returns-2 c = tt
+returns-2 c = hexing-other (c .before .before .before .before .before .loop .inv) (c .before .before .before .before .loop-test .taken) (c .before .before .before .if1 .left) _ _ (c .before .before .byte .ensures) (c .before .hex-digit .ensures) (c .if2 .taken)
 
 mul-n : tie.Need-mul-n Inv-loop μ-loop
-mul-n c = search needs
+mul-n c = omega (arith, hexing-low (c .before .before .before .before .before .loop .inv) (c .before .before .before .before .loop-test .taken))
 
 add-n : tie.Need-add-n Inv-loop μ-loop
-add-n c = search needs
+add-n c = omega (arith, hexing-low (c .before .before .before .before .before .loop .inv) (c .before .before .before .before .loop-test .taken))
 
 add-i : tie.Need-add-i Inv-loop μ-loop
 add-i c = search needs
@@ -40,10 +42,10 @@ loop-less : tie.Need-loop-less Inv-loop μ-loop
 loop-less c = search needs
 
 loop-again : tie.Need-loop-again Inv-loop μ-loop
-loop-again c = tt
+loop-again c = hexing-next (c .before .before .before .before .before .loop .inv) (c .before .before .before .before .loop-test .taken) (c .before .before .before .if1 .left) _ _ (c .before .before .byte .ensures) (c .before .hex-digit .ensures) (c .if2 .left)
 
 returns-3 : tie.Need-returns-3 Inv-loop μ-loop
-returns-3 c = tt
+returns-3 c = hexing-end (c .before .loop .inv) (c .loop-test .left)
 
 pub hex-at-spec : {M : Type 1} → statement M
 hex-at-spec =

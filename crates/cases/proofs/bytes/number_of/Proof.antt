@@ -1,10 +1,11 @@
 use Prim.Native.Nat.{_-_}
 use borrow.Author.Needs.{needs}
+use Rattle.cases.proofs.Words.{Summing, summing-start, summing-end, summing-other, summing-large, summing-next, number-none, number-some}
 use Rattle.cases.proofs.bytes.number_of.Statement.{statement}
 use Rattle.cases.proofs.bytes.number_of.Tie as tie
 
 abbrev Inv-loop : tie.InvT-loop
-Inv-loop line k from to n₀ i₀ n i = Unit {0}
+Inv-loop line k from to n₀ i₀ n i = Summing line from to n i
 
 abbrev μ-loop : tie.MeasureT-loop
 μ-loop line k from to n₀ i₀ n i = to - i
@@ -16,10 +17,10 @@ end-of-requires : tie.Need-end-of-requires Inv-loop μ-loop
 end-of-requires c κs = search needs
 
 returns : tie.Need-returns Inv-loop μ-loop
-returns c = tt
+returns c = number-none _ _ _ _ (c .before .before .start-of .ensures) (c .before .end-of .ensures) (c .if1 .taken)
 
 loop-holds : tie.Need-loop-holds Inv-loop μ-loop
-loop-holds c = tt
+loop-holds c = summing-start _ _ _ (c .before .end-of .ensures)
 
 byte-requires : tie.Need-byte-requires Inv-loop μ-loop
 byte-requires c κs = search needs
@@ -28,10 +29,10 @@ hex-digit-requires : tie.Need-hex-digit-requires Inv-loop μ-loop
 hex-digit-requires c κs = search needs
 
 returns-2 : tie.Need-returns-2 Inv-loop μ-loop
-returns-2 c = tt
+returns-2 c = number-some _ _ _ _ (c .before .before .before .before .before .before .before .start-of .ensures) (c .before .before .before .before .before .before .end-of .ensures) (c .before .before .before .before .before .if1 .left) (summing-other (c .before .before .before .before .loop .inv) (c .before .before .before .loop-test .taken) _ _ (c .before .before .byte .ensures) (c .before .hex-digit .ensures) (c .if2 .taken))
 
 returns-3 : tie.Need-returns-3 Inv-loop μ-loop
-returns-3 c = tt
+returns-3 c = number-some _ _ _ _ (c .before .before .before .before .before .before .before .before .start-of .ensures) (c .before .before .before .before .before .before .before .end-of .ensures) (c .before .before .before .before .before .before .if1 .left) (summing-large (c .before .before .before .before .before .loop .inv) (c .before .before .before .before .loop-test .taken) _ _ (c .before .before .before .byte .ensures) (c .before .before .hex-digit .ensures) (c .before .if2 .left) (c .if3 .taken))
 
 mul-n : tie.Need-mul-n Inv-loop μ-loop
 mul-n c = search needs
@@ -46,10 +47,10 @@ loop-less : tie.Need-loop-less Inv-loop μ-loop
 loop-less c = search needs
 
 loop-again : tie.Need-loop-again Inv-loop μ-loop
-loop-again c = tt
+loop-again c = summing-next (c .before .before .before .before .before .loop .inv) (c .before .before .before .before .loop-test .taken) _ _ (c .before .before .before .byte .ensures) (c .before .before .hex-digit .ensures) (c .before .if2 .left) (c .if3 .left)
 
 returns-4 : tie.Need-returns-4 Inv-loop μ-loop
-returns-4 c = tt
+returns-4 c = number-some _ _ _ _ (c .before .before .before .before .start-of .ensures) (c .before .before .before .end-of .ensures) (c .before .before .if1 .left) (summing-end (c .before .loop .inv) (c .loop-test .left))
 
 pub number-of-spec : {M : Type 1} → statement M
 number-of-spec =

@@ -1,3 +1,4 @@
+use Rattle.cases.proofs.Fed.{one-figure, more-figures}
 use borrow.Author.Needs.{needs}
 use Prim.Native.Nat.{ℕ, _<_}
 use borrow.Fn.Kinds.{In}
@@ -18,53 +19,26 @@ number-at t = and 0 number-kinds.ps (is 0 number-kinds.ps μ-number t) number.Pr
 abbrev number-below : ℕ → In 0 number-kinds.ps
 number-below t = and 0 number-kinds.ps (falls 0 number-kinds.ps _<_ μ-number t) number.Pre
 
-number-figure-requires : (t : ℕ) → number-lts.Need-figure-requires (
-  figure-reads.Asked,
-  figure-reads.Learnt,
-  number-below t,
-  number.Post,
-) (number-at t) number.Post
+abbrev calls : ℕ → number-lts.Claims
+calls t = (figure-reads.Asked, figure-reads.Learnt, number-below t, number.Post)
+
+number-figure-requires : (t : ℕ) → number-lts.Need-figure-requires (calls t) (number-at t) number.Post
 number-figure-requires t c κs = search needs
 
-number-returns : (t : ℕ) → number-lts.Need-returns (
-  figure-reads.Asked,
-  figure-reads.Learnt,
-  number-below t,
-  number.Post,
-) (number-at t) number.Post
-number-returns t c = search needs
+number-returns : (t : ℕ) → number-lts.Need-returns (calls t) (number-at t) number.Post
+number-returns t c = one-figure _ (c .before .if1 .taken) (c .figure .ensures)
 
-number-number-requires : (t : ℕ) → number-lts.Need-number-requires (
-  figure-reads.Asked,
-  figure-reads.Learnt,
-  number-below t,
-  number.Post,
-) (number-at t) number.Post
+number-number-requires : (t : ℕ) → number-lts.Need-number-requires (calls t) (number-at t) number.Post
 number-number-requires t c κs = search needs
 
-number-figure-requires-2 : (t : ℕ) → number-lts.Need-figure-requires-2 (
-  figure-reads.Asked,
-  figure-reads.Learnt,
-  number-below t,
-  number.Post,
-) (number-at t) number.Post
+number-figure-requires-2 : (t : ℕ) → number-lts.Need-figure-requires-2 (calls t) (number-at t) number.Post
 number-figure-requires-2 t c κs = search needs
 
-number-returns-2 : (t : ℕ) → number-lts.Need-returns-2 (
-  figure-reads.Asked,
-  figure-reads.Learnt,
-  number-below t,
-  number.Post,
-) (number-at t) number.Post
-number-returns-2 t c = search needs
+number-returns-2 : (t : ℕ) → number-lts.Need-returns-2 (calls t) (number-at t) number.Post
+number-returns-2 t c = more-figures _ (c .before .before .if1 .left) (c .before .number .ensures) (c .figure2 .ensures)
 
 pub +number-spec : {M : Type 1} → statement M
-+number-spec = close μ-number λ t. number-lts.spec (
-  figure-reads.Asked,
-  figure-reads.Learnt,
-  number-below t,
-  number.Post,
-)
++number-spec = close μ-number λ t. number-lts.spec (calls t)
     (number-at t)
     number.Post
     (number-figure-requires t)

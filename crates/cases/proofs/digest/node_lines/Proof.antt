@@ -1,31 +1,27 @@
-use Prim.Native.Nat.{_-_}
+use Prim.Native.Nat.{_-_, min}
+use native.Mathlib.Omega.{arith}
+use Rattle.cases.proofs.Lines.{Left, node, start, next, nodes-end}
 use borrow.Author.Needs.{needs}
 use Rattle.cases.proofs.digest.node_lines.Statement.{statement}
 use Rattle.cases.proofs.digest.node_lines.Tie as tie
 
 abbrev Inv-loop : tie.InvT-loop
-Inv-loop nodes formulas identifiers text₀ i₀ text i = Unit {0}
+Inv-loop nodes formulas identifiers text₀ i₀ text i = Left (node nodes formulas) (min identifiers 512) text₀ text i
 
 abbrev μ-loop : tie.MeasureT-loop
 μ-loop nodes formulas identifiers text₀ i₀ text i = identifiers - i
 
 loop-holds : tie.Need-loop-holds Inv-loop μ-loop
-loop-holds c = tt
+loop-holds c = start _ _ _
 
 returns : tie.Need-returns Inv-loop μ-loop
-returns c = tt
+returns c = nodes-end _ _ _ _ (omega (arith, c .if1 .taken)) (c .before .before .loop .inv)
 
-mul-node-place : tie.Need-mul-node-place Inv-loop μ-loop
-mul-node-place c = search needs
+mul-node-line : tie.Need-mul-node-line Inv-loop μ-loop
+mul-node-line c = search needs
 
-node-place-requires : tie.Need-node-place-requires Inv-loop μ-loop
-node-place-requires c κs = search needs
-
-mul-node-formula : tie.Need-mul-node-formula Inv-loop μ-loop
-mul-node-formula c = search needs
-
-node-formula-requires : tie.Need-node-formula-requires Inv-loop μ-loop
-node-formula-requires c κs = search needs
+node-line-requires : tie.Need-node-line-requires Inv-loop μ-loop
+node-line-requires c κs = search needs
 
 add-i : tie.Need-add-i Inv-loop μ-loop
 add-i c = search needs
@@ -34,10 +30,10 @@ loop-less : tie.Need-loop-less Inv-loop μ-loop
 loop-less c = search needs
 
 loop-again : tie.Need-loop-again Inv-loop μ-loop
-loop-again c = tt
+loop-again c = next _ _ _ _ (omega (arith, c .before .if1 .left, c .before .before .loop-test .taken)) (c .node-line .ensures) (c .before .before .before .loop .inv)
 
 returns-2 : tie.Need-returns-2 Inv-loop μ-loop
-returns-2 c = tt
+returns-2 c = nodes-end _ _ _ _ (omega (arith, c .loop-test .left)) (c .before .loop .inv)
 
 pub node-lines-spec : {M : Type 1} → statement M
 node-lines-spec =
@@ -47,10 +43,8 @@ node-lines-spec =
     μ-loop
     loop-holds
     returns
-    mul-node-place
-    node-place-requires
-    mul-node-formula
-    node-formula-requires
+    mul-node-line
+    node-line-requires
     add-i
     loop-less
     loop-again

@@ -1,19 +1,20 @@
-use Prim.Native.Nat.{_-_}
+use Prim.Native.Nat.{_-_, _+_, _*_}
+use lib.Dec.{eqb}
+use lib.ListN.{getD}
 use borrow.Author.Needs.{needs}
+use Rattle.cases.specs.Lent.{areMade}
+use Rattle.cases.proofs.Between.{Passing, between-start, between-end, between-miss, between-next, read-equal, read-unequal}
 use Rattle.cases.proofs.lent.are_made.Statement.{statement}
 use Rattle.cases.proofs.lent.are_made.Tie as tie
 
 abbrev Inv-loop : tie.InvT-loop
-Inv-loop formulas from to i₀ i = Unit {0}
+Inv-loop formulas from to i₀ i = Passing (λ j. eqb (getD formulas (6 * j + 1) 0) 0) from to i
 
 abbrev μ-loop : tie.MeasureT-loop
 μ-loop formulas from to i₀ i = to - i
 
 loop-holds : tie.Need-loop-holds Inv-loop μ-loop
-loop-holds c = tt
-
-returns : tie.Need-returns Inv-loop μ-loop
-returns c = tt
+loop-holds c = between-start _ _ _
 
 mul-byte : tie.Need-mul-byte Inv-loop μ-loop
 mul-byte c = search needs
@@ -24,8 +25,9 @@ add-byte c = search needs
 byte-requires : tie.Need-byte-requires Inv-loop μ-loop
 byte-requires c κs = search needs
 
-returns-2 : tie.Need-returns-2 Inv-loop μ-loop
-returns-2 c = tt
+returns : tie.Need-returns Inv-loop μ-loop
+unfolding areMade
+returns c = between-miss (c .before .before .before .loop .inv) (c .before .before .loop-test .taken) (read-unequal (c .before .byte .ensures) (c .if1 .taken))
 
 add-i : tie.Need-add-i Inv-loop μ-loop
 add-i c = search needs
@@ -34,10 +36,11 @@ loop-less : tie.Need-loop-less Inv-loop μ-loop
 loop-less c = search needs
 
 loop-again : tie.Need-loop-again Inv-loop μ-loop
-loop-again c = tt
+loop-again c = between-next (c .before .before .before .loop .inv) (c .before .before .loop-test .taken) (read-equal (c .before .byte .ensures) (c .if1 .left))
 
-returns-3 : tie.Need-returns-3 Inv-loop μ-loop
-returns-3 c = tt
+returns-2 : tie.Need-returns-2 Inv-loop μ-loop
+unfolding areMade
+returns-2 c = between-end (c .before .loop .inv) (c .loop-test .left)
 
 pub are-made-spec : {M : Type 1} → statement M
 are-made-spec =
@@ -46,12 +49,11 @@ are-made-spec =
     Inv-loop
     μ-loop
     loop-holds
-    returns
     mul-byte
     add-byte
     byte-requires
-    returns-2
+    returns
     add-i
     loop-less
     loop-again
-    returns-3)
+    returns-2)

@@ -1,19 +1,20 @@
-use Prim.Native.Nat.{_-_}
+use mathlib.Core.Path.{sym, _∙_}
+use Prim.Native.Nat.{_-_, _*_}
 use borrow.Author.Needs.{needs}
+use borrow.Author.Tests.{not-true, not-false}
+use Rattle.cases.specs.Lent.{isMarked, areMarked}
+use Rattle.cases.proofs.Between.{Passing, between-start, between-end, between-miss, between-next}
 use Rattle.cases.proofs.lent.are_marked.Statement.{statement}
 use Rattle.cases.proofs.lent.are_marked.Tie as tie
 
 abbrev Inv-loop : tie.InvT-loop
-Inv-loop nodes identifiers i₀ i = Unit {0}
+Inv-loop nodes identifiers i₀ i = Passing (λ j. isMarked nodes (12 * j)) 0 identifiers i
 
 abbrev μ-loop : tie.MeasureT-loop
 μ-loop nodes identifiers i₀ i = identifiers - i
 
 loop-holds : tie.Need-loop-holds Inv-loop μ-loop
-loop-holds c = tt
-
-returns : tie.Need-returns Inv-loop μ-loop
-returns c = tt
+loop-holds c = between-start _ _ _
 
 mul-is-marked : tie.Need-mul-is-marked Inv-loop μ-loop
 mul-is-marked c = search needs
@@ -21,8 +22,9 @@ mul-is-marked c = search needs
 is-marked-requires : tie.Need-is-marked-requires Inv-loop μ-loop
 is-marked-requires c κs = search needs
 
-returns-2 : tie.Need-returns-2 Inv-loop μ-loop
-returns-2 c = tt
+returns : tie.Need-returns Inv-loop μ-loop
+unfolding areMarked
+returns c = between-miss (c .before .before .before .loop .inv) (c .before .before .loop-test .taken) (sym (c .before .is-marked .ensures) ∙ not-true _ (c .if1 .taken))
 
 add-i : tie.Need-add-i Inv-loop μ-loop
 add-i c = search needs
@@ -31,10 +33,11 @@ loop-less : tie.Need-loop-less Inv-loop μ-loop
 loop-less c = search needs
 
 loop-again : tie.Need-loop-again Inv-loop μ-loop
-loop-again c = tt
+loop-again c = between-next (c .before .before .before .loop .inv) (c .before .before .loop-test .taken) (sym (c .before .is-marked .ensures) ∙ not-false _ (c .if1 .left))
 
-returns-3 : tie.Need-returns-3 Inv-loop μ-loop
-returns-3 c = tt
+returns-2 : tie.Need-returns-2 Inv-loop μ-loop
+unfolding areMarked
+returns-2 c = between-end (c .before .loop .inv) (c .loop-test .left)
 
 pub are-marked-spec : {M : Type 1} → statement M
 are-marked-spec =
@@ -43,11 +46,10 @@ are-marked-spec =
     Inv-loop
     μ-loop
     loop-holds
-    returns
     mul-is-marked
     is-marked-requires
-    returns-2
+    returns
     add-i
     loop-less
     loop-again
-    returns-3)
+    returns-2)

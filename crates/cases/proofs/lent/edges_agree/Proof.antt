@@ -1,35 +1,34 @@
+use mathlib.Core.Path.{refl, sym, _∙_}
 use Prim.Native.Nat.{_-_}
-use lib.ListN.{length}
+use lib.Dec.{eqb}
+use lib.ListN.{length, getD}
 use borrow.Author.Needs.{needs}
+use Rattle.cases.specs.Lent.{unusedRow, edgesAgree}
+use Rattle.cases.proofs.Between.{Passing, between-start, between-end, between-miss, between-next, read-equal, read-unequal}
 use Rattle.cases.proofs.lent.edges_agree.Statement.{statement}
 use Rattle.cases.proofs.lent.edges_agree.Tie as tie
 
 abbrev Inv-loop : tie.InvT-loop
-Inv-loop edges worlds u₀ u = Unit {0}
+Inv-loop edges worlds u₀ u = Passing (λ v. eqb (getD edges v 0) (unusedRow v)) worlds (length edges) u
 
 abbrev μ-loop : tie.MeasureT-loop
 μ-loop edges worlds u₀ u = length edges - u
 
 loop-holds : tie.Need-loop-holds Inv-loop μ-loop
-loop-holds c = tt
+loop-holds c = between-start _ _ _
 
-mul-if2 : tie.Need-mul-if2 Inv-loop μ-loop
-mul-if2 c = search needs
+mul-if1 : tie.Need-mul-if1 Inv-loop μ-loop
+mul-if1 c = search needs
 
-shared-slice-read-if2 : tie.Need-shared-slice-read-if2 Inv-loop μ-loop
-shared-slice-read-if2 c = search needs
+shared-slice-read-if1 : tie.Need-shared-slice-read-if1 Inv-loop μ-loop
+shared-slice-read-if1 c = search needs
+
+unused-row-requires : tie.Need-unused-row-requires Inv-loop μ-loop
+unused-row-requires c κs = search needs
 
 returns : tie.Need-returns Inv-loop μ-loop
-returns c = tt
-
-mul-if3 : tie.Need-mul-if3 Inv-loop μ-loop
-mul-if3 c = search needs
-
-shared-slice-read-if3 : tie.Need-shared-slice-read-if3 Inv-loop μ-loop
-shared-slice-read-if3 c = search needs
-
-returns-2 : tie.Need-returns-2 Inv-loop μ-loop
-returns-2 c = tt
+unfolding edgesAgree
+returns c = between-miss (c .before .before .before .before .loop .inv) (c .before .before .before .loop-test .taken) (read-unequal refl (λ e. c .if1 .taken (e ∙ sym (c .before .unused-row .ensures))))
 
 add-u : tie.Need-add-u Inv-loop μ-loop
 add-u c = search needs
@@ -38,10 +37,11 @@ loop-less : tie.Need-loop-less Inv-loop μ-loop
 loop-less c = search needs
 
 loop-again : tie.Need-loop-again Inv-loop μ-loop
-loop-again c = tt
+loop-again c = between-next (c .before .before .before .before .loop .inv) (c .before .before .before .loop-test .taken) (read-equal refl (c .if1 .left ∙ c .before .unused-row .ensures))
 
-returns-3 : tie.Need-returns-3 Inv-loop μ-loop
-returns-3 c = tt
+returns-2 : tie.Need-returns-2 Inv-loop μ-loop
+unfolding edgesAgree
+returns-2 c = between-end (c .before .loop .inv) (c .loop-test .left)
 
 pub edges-agree-spec : {M : Type 1} → statement M
 edges-agree-spec =
@@ -50,13 +50,11 @@ edges-agree-spec =
     Inv-loop
     μ-loop
     loop-holds
-    mul-if2
-    shared-slice-read-if2
+    mul-if1
+    shared-slice-read-if1
+    unused-row-requires
     returns
-    mul-if3
-    shared-slice-read-if3
-    returns-2
     add-u
     loop-less
     loop-again
-    returns-3)
+    returns-2)
