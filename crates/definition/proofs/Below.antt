@@ -58,7 +58,7 @@ any-append : {A : Type 0} (p : A → Bool) (xs ys : List A) → any p ys ≡ tru
 any-append p [] ys h = h
 any-append p (x ∷ xs) ys h = or-true (p x) (any-append p xs ys h)
 
-elem-not : (x : ℕ) (xs : List ℕ) → Each (λ y. y ≢ x) xs → elem x xs ≡ false
+pub elem-not : (x : ℕ) (xs : List ℕ) → Each (λ y. y ≢ x) xs → elem x xs ≡ false
 elem-not x xs h = not-true-false (elem x xs) (λ e. elem-each (λ y. y ≢ x) x xs e h refl)
 
 elem-first : (x : ℕ) (xs : List ℕ) → elem x (x ∷ xs) ≡ true
@@ -167,11 +167,11 @@ module _ (t : List Node) (r : Treed t) where
       let d = r .above x i (inner x j) .deeper in
       rw (path-below t r x i) (omega arith, each-map (λ z (h : r .depth z ≤ r .depth (nodeAt t x .parent)). omega (arith, h, d)) (path t (nodeAt t x .parent)) up))
 
-  elem-self : (x : ℕ) → In (spots t) x → elem x (path t x) ≡ true
+  pub elem-self : (x : ℕ) → In (spots t) x → elem x (path t x) ≡ true
   elem-self x i = ap (elem x) (path-below t r x i) ∙ elem-first x (path t (nodeAt t x .parent))
 
   -- a path that holds a node holds its parent
-  elem-parent : (c : ℕ) → In (spots t) (nodeAt t c .parent) → (l : ℕ) → In (spots t) l → elem c (path t l) ≡ true → elem (nodeAt t c .parent) (path t l) ≡ true
+  pub elem-parent : (c : ℕ) → In (spots t) (nodeAt t c .parent) → (l : ℕ) → In (spots t) l → elem c (path t l) ≡ true → elem (nodeAt t c .parent) (path t l) ≡ true
   elem-parent c j =
       climbing t r (λ l. elem c (path t l) ≡ true → elem (nodeAt t c .parent) (path t l) ≡ true)
       (λ e. absurd (inner c j (elem-each (λ y. y ≡ 0) c (path t 0) e (rw (path-root t r) (refl, tt)))))
@@ -183,7 +183,7 @@ module _ (t : List Node) (r : Treed t) where
       (⊎-elim (λ q. subst (λ (y : ℕ). elem y (path t b) ≡ true) (sym (ap (λ (z : ℕ). nodeAt t z .parent) (eqb-true c x q))) (elem-self b k)) up
       (or-cases (eqb c x) (elem c (path t b)) (sym (ap (elem c) (path-below t r x i)) ∙ e))))
 
-  abbrev through : ℕ → List ℕ → List ℕ
+  abbrev pub through : ℕ → List ℕ → List ℕ
   through g = filter (λ l. elem g (path t l))
 
   -- every path of a leaf below x goes through x
@@ -228,7 +228,7 @@ module _ (t : List Node) (r : Treed t) where
           ap₂ _++_ (other Left (λ e. omega (arith, ap placeNumber (sym at ∙ e)))) (ap₂ _++_ (other Middle (λ e. omega (arith, ap placeNumber (sym at ∙ e)))) (own Right q))
       go Unplaced at q = absurd (in-out (spots t) c nobody i (r .nobody-out) (sym q))
 
-  through-is : (g : ℕ) → In (spots t) g → through g (leaves t) ≡ leavesBelow (length t) t g
+  pub through-is : (g : ℕ) → In (spots t) g → through g (leaves t) ≡ leavesBelow (length t) t g
   unfolding leaves kid
   through-is =
       climbing t r (λ g. through g (leaves t) ≡ leavesBelow (length t) t g) (through-own (length t) 0 (root-in (spots t) r))
@@ -248,8 +248,13 @@ module _ (t : List Node) (r : Treed t) where
       ∙ filter-append on u (v ++ w) ∙ ap (λ (ys : List ℕ). filter on u ++ ys) (filter-append on v w)
       ∙ through-child n a x j i (above .deeper) (nodeAt t x .place) refl (above .child))
 
-  path-there : (x : ℕ) → In (spots t) x → Each (In (spots t)) (path t x)
+  pub path-there : (x : ℕ) → In (spots t) x → Each (In (spots t)) (path t x)
   path-there = climbing t r (λ x. Each (In (spots t)) (path t x)) (rw (path-root t r) (root-in (spots t) r, tt)) (λ x i j up. rw (path-below t r x i) (i, up))
+
+  pub through-out : (g : ℕ) → Out (spots t) g → through g (leaves t) ≡ []
+  through-out g o =
+      filter-none (λ l. elem g (path t l)) (leaves t)
+      (each-map (λ l (b : Bare (spots t) l). elem-not g (path t l) (each-map (λ y j. in-out (spots t) y g j o) (path t l) (path-there l (b .0)))) (leaves t) (leaves-bare t r))
 
   -- ---- the leaves that take what goes below the target
   takers-are : (g : ℕ) → In (spots t) g → filter (takes t g) (leaves t) ≡ opened (length t) g

@@ -6,10 +6,12 @@ use mathlib.Core.List.{List, [], _∷_, _++_, map, reverse, append-nil, append-a
 use native.Mathlib.Omega.{arith}
 use lib.ListN.{length, getD, set, drop, length-append, drop-of-length-le}
 use lib.Seq.{drop-cons}
+use Rattle.definition.specs.Lists.{Each}
 use Rattle.definition.specs.Graph.{Graph}
 use Rattle.definition.specs.Tree.{Node}
 use Rattle.definition.specs.Subtree.{Targeted}
 use Rattle.definition.specs.Modality.{Necessity, Fork, Made, visiting, isReapplied, reapplyIfOnPath, reapplyNecessityAfterPossibility, necessitiesAfterPossibility}
+use Rattle.definition.proofs.Lists.{each-get}
 use Rattle.tree.specs.Lay.{Held}
 use Rattle.tree.proofs.Nodes.{held-long, held-as}
 use Rattle.necessities.specs.Stack.{Stack}
@@ -30,6 +32,10 @@ mapped-at f zero ns none = refl
 mapped-at f (suc i) [] none = refl
 mapped-at f (suc i) (n ∷ ns) none = mapped-at f i ns none
 
+-- entry i is still the old one
+pub mapped-each : (P : Necessity → Type 0) (f : Necessity → Necessity) (i : ℕ) (ns : List Necessity) (none : Necessity) → Each P ns → i < length ns → P (getD (mapped f i ns) i none)
+mapped-each P f i ns none h low = subst P (sym (mapped-at f i ns none)) (each-get P ns none h i (λ past. absurd (omega (arith, past, low))))
+
 mapped-set : (f : Necessity → Necessity) (i : ℕ) (ns : List Necessity) (none : Necessity) → i < length ns → set (mapped f i ns) i (f (getD ns i none)) ≡ mapped f (suc i) ns
 unfolding mapped
 mapped-set f zero [] none h = absurd (omega arith)
@@ -43,7 +49,7 @@ mapped-all f [] = refl
 mapped-all f (n ∷ ns) = ap (λ (l : List Necessity). f n ∷ l) (mapped-all f ns)
 
 module _ (t : List Node) (g : Graph) (fk : Fork) where
-  abbrev after : Necessity → Necessity
+  abbrev pub after : Necessity → Necessity
   after n = cond (isReapplied t fk n) (visiting t g n) n
 
   abbrev left : List Node → List Necessity → Made

@@ -3,11 +3,13 @@ use Prim.Native.Nat.{ℕ, suc, min, _<_, _≤_, _+_}
 use mathlib.Core.Bool.{true, false}
 use mathlib.Core.Path.{_≡_, refl, sym, ap, _∙_, subst}
 use mathlib.Core.List.{List, [], _∷_, _++_, map, append-assoc}
+use mathlib.Core.Option.{some}
 use mathlib.Core.Logic.{_⊎_, inl, inr}
 use native.Mathlib.Omega.{arith}
 use lib.ListN.{length, replicate, length-append}
 use Rattle.arrays.specs.Listed.{Listed}
 use Rattle.arrays.proofs.Listed.{listed-fits}
+use Rattle.definition.specs.Lists.{Each}
 use Rattle.definition.specs.Flags.{Flags}
 use Rattle.definition.specs.Records.{Rec, nobody}
 use Rattle.definition.specs.Graph.{Graph, initializeGraphIfNeeded, forkedWorld, fork}
@@ -17,7 +19,8 @@ use Rattle.definition.specs.Modality.{Fork, reapplyNecessityAfterPossibility, n
 use Rattle.definition.specs.Rules.{asPossible}
 use Rattle.definition.specs.Run.{State, applyPossibility, applyRule}
 use Rattle.definition.proofs.Edges.{init-one, init-less}
-use Rattle.definition.proofs.Treed.{Treed, leaves-few}
+use Rattle.definition.proofs.Lists.{each-map}
+use Rattle.definition.proofs.Treed.{Treed, leaves-few, leaves-within}
 use Rattle.definition.proofs.Growing.{Steady, rule-steady}
 use Rattle.definition.proofs.Nodes.{ext-subtree, ext-result}
 use Rattle.graph.specs.Drawn.{Drawn}
@@ -31,6 +34,7 @@ use Rattle.subtree.specs.declared.Counts.{Counts}
 use Rattle.subtree.specs.Subtree.{subtreeOf, Within, Left}
 use Rattle.subtree.specs.Rows.{Row, Rows, itemFrom}
 use Rattle.subtree.proofs.Rows.{rows-none, rows-more}
+use Rattle.modality.specs.Seen.{Seen}
 use Rattle.logic.specs.declared.Given.{Given}
 use Rattle.logic.specs.declared.Sizes.{Sizes}
 use Rattle.logic.specs.Gave.{Listing, Gave}
@@ -132,15 +136,23 @@ module _ (F : Flags) (s : State) (x : ℕ) (recs : List Rec) (f : ℕ) (q : List
   pub forked-held : {v len : ℕ} {a : List ℕ} → v ≡ forkedWorld g₀ → Held (s .nodes ++ (newNode x f v ∷ newNode x nobody 0 ∷ [])) len a → Held (s .nodes ++ both) len a
   forked-held e h = held-as (s .nodes ++ both) (ap (λ (w : ℕ). s .nodes ++ (newNode x f w ∷ newNode x nobody 0 ∷ [])) e) h
 
+  pub forked-seen : {v : ℕ} (a : List ℕ) → v ≡ forkedWorld g₀ → Each (Seen (s .nodes) (some (record { node = x; world = v })) a) (leaves (s .nodes)) → Each (Seen (s .nodes) (some forking) a) (leaves (s .nodes))
+  forked-seen a e h = subst (λ (w : ℕ). Each (Seen (s .nodes) (some (record { node = x; world = w })) a) (leaves (s .nodes))) e h
+
 pub listing-start : (len : ℕ) → Listing [] [] 0 len (replicate 1536 0)
 listing-start len = record { all = []; rows = rows-none len; are = refl }
+
+-- the leaves of a tree whose nodes fit
+module _ (t : List Node) (r : Treed t) {base : ℕ} (count : length t ≡ base) (fits : base ≤ 512) where
+  pub all-leaves : {m : ℕ} {a : List ℕ} → Listed ([] ++ leavesBelow base t 0) m a → Listed (leaves t) m a × (m ≤ 512)
+  all-leaves l =
+      let k = listed-as (leaves t) (leaves-as t base count) l in
+      (k, listed-fits k (omega (arith, leaves-few t r, count, fits)))
+
+  pub leaves-low : Each (λ y. y < 512) (leaves t)
+  leaves-low = each-map (λ y (h : y < length t). omega (arith, h, count, fits)) (leaves t) (leaves-within t r)
 
 -- what a state before a rule gives
 module _ {p : Sizes} {ta ea ra la va oa wa : List ℕ} {s : State} {q : List ℕ} (b : Before p ta ea ra la va oa wa s q) where
   pub before-held : Held (s .nodes) (p .nodes) ta
   before-held = held (omega (arith, b .fits, b .count)) (b .count) (b .laid)
-
-  pub before-leaves : {m : ℕ} {a : List ℕ} → Listed ([] ++ leavesBelow (p .nodes) (s .nodes) 0) m a → Listed (leaves (s .nodes)) m a × (m ≤ 512)
-  before-leaves l =
-      let k = listed-as (leaves (s .nodes)) (leaves-as (s .nodes) (p .nodes) (b .count)) l in
-      (k, listed-fits k (omega (arith, leaves-few (s .nodes) (b .treed), b .fits)))

@@ -8,15 +8,19 @@ use lib.ListN.{length, getD, drop, length-append, length-map, drop-of-length-le}
 use lib.Seq.{drop-cons}
 use Rattle.arrays.specs.Listed.{Listed}
 use Rattle.arrays.proofs.Listed.{listed-count}
-use Rattle.definition.specs.Lists.{filter}
+use Rattle.bits.specs.Bits.{bitOf}
+use Rattle.definition.specs.Lists.{Each, filter}
 use Rattle.definition.specs.Tree.{Node, newNode, path}
 use Rattle.definition.specs.Subtree.{Targeted}
 use Rattle.definition.specs.Modality.{Necessity, Fork, occurs, Made, giveOn}
 use Rattle.tree.specs.Lay.{Held}
 use Rattle.tree.proofs.Nodes.{held-ok, held-fits, held-as}
+use Rattle.definition.proofs.Lists.{each-get}
 use Rattle.subtree.specs.Rows.{Row, Rows}
-use Rattle.logic.specs.Gave.{Listing}
-use Rattle.logic.proofs.Listings.{item, listing-as, listing-both}
+use Rattle.modality.specs.Seen.{Seen}
+use Rattle.logic.specs.declared.Given.{Given}
+use Rattle.logic.specs.Gave.{Listing, Gave}
+use Rattle.logic.proofs.Listings.{item, listing-as, listing-both, listing-self, listing-skip}
 
 module _ (t : List Node) (fk : Option Fork) (n : Necessity) (ws : List ℕ) where
   abbrev here : ℕ → List ℕ
@@ -110,3 +114,29 @@ module _ (t : List Node) (fk : Option Fork) (n : Necessity) (ws : List ℕ) wher
     giving-ends ls {j} lk small past g =
         let b : length ls ≤ j = omega (arith, past, listed-count lk small) in
         giving-end (giving-turn [] (drop-of-length-le ls b) g)
+
+-- no world, nothing is given
+module _ (t : List Node) (fk : Option Fork) (n : Necessity) where
+  nothing-made : (ls : List ℕ) (next : ℕ) → giveOn t fk n [] next ls .nodes ≡ []
+  unfolding giveOn
+  nothing-made [] next = refl
+  nothing-made (leaf ∷ ls) next = nothing-made ls (next + 0)
+
+  nothing-listed : (ls : List ℕ) (next : ℕ) {rs : List Row} {count len : ℕ} {ia : List ℕ} → Listing rs [] count len ia → Listing rs (giveOn t fk n [] next ls .subtrees) count len ia
+  unfolding giveOn
+  nothing-listed [] next l = l
+  nothing-listed (leaf ∷ ls) next l =
+      let one = listing-skip leaf l in
+      listing-both (item leaf 0 next ∷ []) (giveOn t fk n [] (next + 0) ls .subtrees) one (nothing-listed ls (next + 0) (listing-self one))
+
+  pub nothing-given : (ls : List ℕ) (next : ℕ) {ms : List Node} {rs : List Row} (r : Given) {a ia : List ℕ} → Held ms (r .nodes) a → (r .nodes ≤ 512 → Listing rs [] (r .items) (r .nodes) ia) →
+      Gave ms rs (giveOn t fk n [] next ls) r a ia
+  nothing-given ls next {ms} r h l =
+      record { nodes = held-as (ms ++ giveOn t fk n [] next ls .nodes) (sym (append-nil ms) ∙ ap (λ (v : List Node). ms ++ v) (sym (nothing-made ls next))) h; rows = λ small. nothing-listed ls next (l small) }
+
+-- the worlds that occur on the path of entry j
+pub seen-entry : (t : List Node) (fk : Option Fork) (ls a : List ℕ) (j leaf word : ℕ) → Each (Seen t fk a) ls → j < length ls → leaf ≡ getD ls j 0 → (leaf < 512 → word ≡ getD a leaf 0) →
+    (v : ℕ) → v < 32 → bitOf word v ≡ occurs t fk (path t leaf) v
+seen-entry t fk ls a j leaf word seen low e has v h =
+    let s = subst (Seen t fk a) (sym e) (each-get (Seen t fk a) ls 0 seen j (λ past. absurd (omega (arith, past, low)))) in
+    ap (λ (w : ℕ). bitOf w v) (has (s .low)) ∙ s .same v h

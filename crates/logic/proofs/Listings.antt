@@ -6,6 +6,7 @@ use native.Mathlib.Omega.{arith}
 use Rattle.definition.specs.Lists.{upFrom}
 use Rattle.definition.specs.Subtree.{Targeted, withMiddle}
 use Rattle.subtree.specs.Rows.{Row, Rows, itemFrom}
+use Rattle.subtree.proofs.Rows.{rows-skip}
 use Rattle.logic.specs.Gave.{Listing}
 
 map-append : {A B : Type 0} (f : A → B) (xs ys : List A) → map f (xs ++ ys) ≡ map f xs ++ map f ys
@@ -24,6 +25,17 @@ listing-one {rs} {count} {start} {finish} {ia} target h up =
     let e : start + (finish - start) ≡ finish = omega (arith, up) in
     let all = rs ++ (record { target = target; start = start; count = finish - start } ∷ []) in
     record { all = all; rows = subst (λ (m : ℕ). Rows all count ia m) e h; are = map-append itemFrom rs _ }
+
+-- a row without a node is none of the table's
+pub listing-skip : {rs : List Row} {count len : ℕ} {ia : List ℕ} (target : ℕ) → Listing rs [] count len ia → Listing rs (item target 0 0 ∷ []) count len ia
+listing-skip {rs} {count} {len} {ia} target l =
+    let row : Row = record { target = target; start = len; count = 0 } in
+    let e : len + 0 ≡ len = omega arith in
+    record {
+      all = l .all ++ (row ∷ []);
+      rows = subst (λ (m : ℕ). Rows (l .all ++ (row ∷ [])) count ia m) e (rows-skip row (omega arith) refl (l .rows));
+      are = map-append itemFrom (l .all) (row ∷ []) ∙ ap (λ (v : List Targeted). v ++ (item target 0 0 ∷ [])) (l .are ∙ append-nil (map itemFrom rs));
+    }
 
 -- rows of two parts
 pub listing-both : {rs : List Row} {count count′ len len′ : ℕ} {ia ia′ : List ℕ} (xs ys : List Targeted) (l : Listing rs xs count len ia) → Listing (l .all) ys count′ len′ ia′ → Listing rs (xs ++ ys) count′ len′ ia′

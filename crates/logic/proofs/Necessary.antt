@@ -1,6 +1,7 @@
 -- What a necessity leaves.
 use Prim.Native.Nat.{ℕ, _<_, _≤_}
-use mathlib.Core.Path.{_≡_, sym, ap, subst}
+use mathlib.Core.Path.{_≡_, refl, sym, ap, _∙_, subst}
+use mathlib.Core.Bool.{Bool, true}
 use mathlib.Core.List.{List, [], _∷_, _++_, map, append-nil}
 use mathlib.Core.Option.{none}
 use native.Mathlib.Omega.{arith}
@@ -13,14 +14,16 @@ use Rattle.definition.specs.Records.{Rec}
 use Rattle.definition.specs.Graph.{Graph, initializeGraphIfNeeded}
 use Rattle.definition.specs.Tree.{Node, nodeAt, leaves, path}
 use Rattle.definition.specs.Subtree.{Targeted, appendLogicRuleResult}
-use Rattle.definition.specs.Modality.{Necessity, reapplyNecessity, visiting}
+use Rattle.definition.specs.Modality.{Necessity, runsThrough, leavesOf, reapplyNecessity, visiting}
 use Rattle.definition.specs.Rules.{asNecessary}
 use Rattle.definition.specs.Run.{State, applyNecessity, applyRule}
-use Rattle.definition.proofs.Lists.{each-map, filter-keeps}
-use Rattle.definition.proofs.Treed.{Treed, leaves-within, leaves-few}
+use Rattle.definition.proofs.Lists.{each-map, each-filter, filter-keeps}
+use Rattle.definition.proofs.Treed.{spots, Treed, Bare, leaves-bare, leaves-within, leaves-few}
+use Rattle.definition.proofs.Spawned.{stored-spawned, spawned-leaves}
 use Rattle.definition.proofs.Growing.{Steady, rule-steady}
 use Rattle.graph.specs.Drawn.{Drawn}
 use Rattle.tree.specs.Lay.{Held}
+use Rattle.tree.proofs.Paths.{listed-as}
 use Rattle.tree.proofs.Nodes.{held-ok}
 use Rattle.necessities.specs.Stack.{Stack, fresh}
 use Rattle.subtree.specs.declared.Counts.{Counts}
@@ -42,6 +45,10 @@ given-placed ns q more small h l list st rest =
     let e = held-ok h small .0 in
     left-as (ap (λ (rs : List Targeted). appendLogicRuleResult ns q rs) (put .are)) (rest ns q (put .all) h (λ _. l) (λ _. rows-more (omega (arith, e)) (put .rows)) (subst (Steady ns q) (sym (put .are)) st))
 
+filter-all : (p : ℕ → Bool) (xs : List ℕ) → Each (λ x. p x ≡ true) xs → filter p xs ≡ xs
+filter-all p [] h = refl
+filter-all p (x ∷ xs) h = rw (h .0) (ap (λ (l : List ℕ). x ∷ l) (filter-all p xs (h .1)))
+
 module _ (s : State) (x f : ℕ) where
   abbrev through : List ℕ
   through = filter (λ leaf. elem x (path (s .nodes) leaf)) (leaves (s .nodes))
@@ -54,6 +61,17 @@ module _ (s : State) (x f : ℕ) where
     listed-fits l (omega (arith, filter-few (λ leaf. elem x (path (s .nodes) leaf)) (leaves (s .nodes)), leaves-few (s .nodes) (b .treed), b .fits)),
     each-map (λ y (h : y < length (s .nodes)). omega (arith, h, b .fits)) through (filter-keeps (λ y. y < length (s .nodes)) (λ leaf. elem x (path (s .nodes) leaf)) (leaves (s .nodes)) (leaves-within (s .nodes) (b .treed))),
   )
+
+  -- of the leaves through x, those whose paths run through a leaf that is stored now: all of them
+  pub through-own : Treed (s .nodes) → {m : ℕ} {a : List ℕ} → Listed (filter (λ leaf. runsThrough (necessityOf s x f) (path (s .nodes) leaf)) through) m a → Listed (leavesOf (s .nodes) (necessityOf s x f)) m a
+  unfolding fresh
+  through-own r l =
+      let t = s .nodes in
+      let n = necessityOf s x f in
+      let own = stored-spawned t r n refl in
+      let all : Each (λ leaf. runsThrough n (path t leaf) ≡ true) through =
+      each-map (λ leaf (h : Bare (spots t) leaf × (elem x (path t leaf) ≡ true)). own leaf (h .0) ∙ h .1) through (each-filter (Bare (spots t)) (λ leaf. elem x (path t leaf)) (leaves t) (leaves-bare t r)) in
+      listed-as (leavesOf t n) (filter-all (λ leaf. runsThrough n (path t leaf)) through all ∙ sym (spawned-leaves t r n own)) l
 
 module _ (F : Flags) (s : State) (x : ℕ) (recs : List Rec) (f : ℕ) (q : List ℕ) where
   abbrev graph : Graph

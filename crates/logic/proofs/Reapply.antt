@@ -10,13 +10,16 @@ use Rattle.definition.specs.Lists.{Each, empty, filter, below, elem}
 use Rattle.definition.specs.Graph.{Graph, edge, reached}
 use Rattle.definition.specs.Tree.{Node, leaves, path}
 use Rattle.definition.specs.Modality.{Necessity, Fork, Made, runsThrough, unvisited, giveOn, leavesOf, reapplyNecessity, visiting, isReapplied, reapplyIfOnPath}
-use Rattle.definition.proofs.Lists.{each-map}
+use Rattle.definition.proofs.Lists.{cond-both, each-map, filter-keeps}
+use Rattle.definition.proofs.Treed.{Treed, leaves-few}
+use Rattle.definition.proofs.Spawned.{Spawned, spawned-leaves}
 use Rattle.definition.proofs.Issued.{length-from}
 use Rattle.definition.proofs.Given.{unvisited-each}
 use Rattle.arrays.specs.Listed.{Listed}
 use Rattle.arrays.proofs.Listed.{listed-fits, listed-count}
 use Rattle.graph.specs.Drawn.{Drawn}
 use Rattle.tree.specs.Lay.{Held}
+use Rattle.tree.proofs.Paths.{listed-as}
 use Rattle.tree.proofs.Nodes.{held-ok, held-long, held-as}
 use Rattle.necessities.specs.Stored as stored
 use Rattle.necessities.specs.Stack.{Stack, visits}
@@ -24,6 +27,7 @@ use Rattle.subtree.specs.Rows.{Row}
 use Rattle.logic.specs.declared.Given.{Given}
 use Rattle.modality.specs.Stands.{Stands}
 use Rattle.logic.specs.Gave.{Listing, Gave}
+use Rattle.logic.proofs.Giving.{nothing-given}
 
 pub filter-few : {A : Type 0} (p : A → Bool) (xs : List A) → length (filter p xs) ≤ length xs
 filter-few p [] = omega arith
@@ -33,55 +37,60 @@ filter-few p (x ∷ xs) = go (p x) (filter-few p xs)
     go true h = omega (arith, h)
     go false h = omega (arith, h)
 
--- of a necessity whose paths are those of the leaves
-abbrev pub toVisit : Graph → Necessity → List ℕ → List ℕ
-toVisit g n on = cond (empty on) [] (unvisited g n)
-
-pub visit-none : (g : Graph) (n : Necessity) (on : List ℕ) → length on ≡ 0 → toVisit g n on ≡ []
-visit-none g n [] e = refl
-visit-none g n (x ∷ on) e = absurd (omega (arith, e))
-
-pub visit-some : (g : Graph) (n : Necessity) (on : List ℕ) (m : ℕ) → length on ≡ m → (m ≡ 0 → ⊥) → unvisited g n ≡ toVisit g n on
-visit-some g n [] m e h = absurd (h (sym e))
-visit-some g n (x ∷ on) m e h = refl
-
 module _ (g : Graph) (n : Necessity) {worlds : ℕ} {ea : List ℕ} (d : Drawn g worlds ea) where
-  few : length (unvisited g n) ≤ 25
+  pub visit-fits : {r : ℕ} {a : List ℕ} → Listed (unvisited g n) r a → r ≤ 512
   unfolding unvisited reached
-  few =
-      omega (
+  visit-fits l =
+      listed-fits l (omega (
         arith,
         filter-few (λ v. not (elem v (n .visited))) (filter (edge g (n .world)) (below (g .worlds))),
         filter-few (edge g (n .world)) (below (g .worlds)),
         length-from (g .worlds) 0,
         d .count,
         d .room,
-      )
+      ))
 
-  pub visit-fits : (on : List ℕ) {r : ℕ} {a : List ℕ} → Listed (toVisit g n on) r a → r ≤ 512
-  visit-fits [] l = listed-fits l (omega arith)
-  visit-fits (x ∷ on) l = listed-fits l (omega (arith, few))
-
-  pub visit-low : (on : List ℕ) → Each (λ v. v < 32) (toVisit g n on)
-  visit-low [] = tt
-  visit-low (x ∷ on) = each-map (λ v (h : (v < g .worlds) × (edge g (n .world) v ≡ true)). omega (arith, h .0, d .count, d .room)) (unvisited g n) (unvisited-each g n)
-
-give-visit : (t : List Node) (fk : Option Fork) (g : Graph) (n : Necessity) (next : ℕ) (on : List ℕ) → giveOn t fk n (toVisit g n on) next on ≡ giveOn t fk n (unvisited g n) next on
-unfolding giveOn
-give-visit t fk g n next [] = refl
-give-visit t fk g n next (x ∷ on) = refl
+  pub visit-low : Each (λ v. v < 32) (unvisited g n)
+  visit-low = each-map (λ v (h : (v < g .worlds) × (edge g (n .world) v ≡ true)). omega (arith, h .0, d .count, d .room)) (unvisited g n) (unvisited-each g n)
 
 -- what is given
 pub gave-again : (t : List Node) (fk : Option Fork) (g : Graph) (n : Necessity) {ns : List Node} {rs : List Row} {r : Given} {a ia : List ℕ} →
-    Gave ns rs (giveOn t fk n (toVisit g n (leavesOf t n)) (length ns) (leavesOf t n)) r a ia → Gave ns rs (reapplyNecessity t g fk (length ns) n) r a ia
+    Gave ns rs (giveOn t fk n (unvisited g n) (length ns) (leavesOf t n)) r a ia → Gave ns rs (reapplyNecessity t g fk (length ns) n) r a ia
 unfolding reapplyNecessity
-gave-again t fk g n {ns} {rs} {r} {a} {ia} h = subst (λ (m : Made). Gave ns rs m r a ia) (give-visit t fk g n (length ns) (leavesOf t n)) h
+gave-again t fk g n h = h
 
 -- and what is stored then
-pub stack-again : (t : List Node) (g : Graph) (none : Necessity) (ns : List Necessity) (i : ℕ) {c : ℕ} {o r a v : List ℕ} →
-    Stack (set ns i (visits (getD ns i none) (toVisit g (getD ns i none) (leavesOf t (getD ns i none))))) c o r a v → Stack (set ns i (visiting t g (getD ns i none))) c o r a v
-unfolding visits visiting
-stack-again t g none ns i h = h
+no-length : {A : Type 0} (xs : List A) → length xs ≡ 0 → xs ≡ []
+no-length [] e = refl
+no-length (x ∷ xs) e = absurd (omega (arith, e))
+
+module _ (t : List Node) (g : Graph) (n : Necessity) where
+  abbrev more : List ℕ
+  more = cond (empty (leavesOf t n)) [] (unvisited g n)
+
+  visiting-none : more ≡ [] → n ≡ visiting t g n
+  unfolding visiting
+  visiting-none e = sym (rw (e, append-nil (n .visited)) refl)
+
+  -- nothing to visit, or no path to visit it on
+  pub visiting-idle : length (unvisited g n) ≡ 0 → n ≡ visiting t g n
+  visiting-idle e = visiting-none (go (empty (leavesOf t n)))
+    where
+      go : (b : Bool) → cond b [] (unvisited g n) ≡ []
+      go true = refl
+      go false = no-length (unvisited g n) e
+
+  pub visiting-nowhere : length (leavesOf t n) ≡ 0 → n ≡ visiting t g n
+  visiting-nowhere e = visiting-none (ap (λ (l : List ℕ). cond (empty l) [] (unvisited g n)) (no-length (leavesOf t n) e))
+
+  pub visiting-some : (length (leavesOf t n) ≡ 0 → ⊥) → visits n (unvisited g n) ≡ visiting t g n
+  unfolding visits visiting
+  visiting-some h = go (leavesOf t n) h
+    where
+      go : (l : List ℕ) → (length l ≡ 0 → ⊥) →
+          visits n (unvisited g n) ≡ record { formula = n .formula; world = n .world; spawner = n .spawner; leaves = n .leaves; visited = n .visited ++ cond (empty l) [] (unvisited g n) }
+      go [] h = absurd (h refl)
+      go (x ∷ l) h = refl
 
 pub row-as : {n : Necessity} {j k : ℕ} {r a v : List ℕ} → j ≡ k → stored.Row n j r a v → stored.Row n k r a v
 row-as {n} {j} {k} {r} {a} {v} e h = subst (λ (m : ℕ). stored.Row n m r a v) e h
@@ -90,9 +99,18 @@ row-as {n} {j} {k} {r} {a} {v} e h = subst (λ (m : ℕ). stored.Row n m r a v) 
 pub stands : (t more : List Node) {base len : ℕ} {a : List ℕ} → length t ≡ base → Held (t ++ more) len a → len ≤ 512 → Stands t base a
 stands t more b h small = let k = held-ok h small in record { more = more; count = b; room = omega (arith, k .0, small); laid = k .1 }
 
-pub paths-fit : (t : List Node) (n : Necessity) {m r : ℕ} {a o : List ℕ} → Listed (leaves t) m a → m ≤ 512 → Listed (leavesOf t n) r o → r ≤ 512
+-- the paths of a necessity, known by its spawner
+module _ (t : List Node) (tree : Treed t) (n : Necessity) (at : Spawned t n) {y : ℕ} (e : y ≡ n .spawner) where
+  pub paths-own : {r : ℕ} {o : List ℕ} → Listed (filter (λ leaf. elem y (path t leaf)) (leaves t)) r o → Listed (leavesOf t n) r o
+  paths-own l = listed-as (leavesOf t n) (ap (λ (x : ℕ). filter (λ leaf. elem x (path t leaf)) (leaves t)) e ∙ sym (spawned-leaves t tree n at)) l
+
+pub paths-few : (t : List Node) → Treed t → (n : Necessity) {base : ℕ} {a : List ℕ} → Stands t base a → {r : ℕ} {o : List ℕ} → Listed (leavesOf t n) r o → r ≤ 512
 unfolding leavesOf
-paths-fit t n l small k = listed-fits k (omega (arith, filter-few (λ leaf. runsThrough n (path t leaf)) (leaves t), listed-count l small, small))
+paths-few t tree n d k = listed-fits k (omega (arith, filter-few (λ leaf. runsThrough n (path t leaf)) (leaves t), leaves-few t tree, d .room, length-append t (d .more)))
+
+pub paths-seen : (P : ℕ → Type 0) (t : List Node) (n : Necessity) → Each P (leaves t) → Each P (leavesOf t n)
+unfolding leavesOf
+paths-seen P t n h = filter-keeps P (λ leaf. runsThrough n (path t leaf)) (leaves t) h
 
 -- a full table stays full
 pub gave-full : {ns : List Node} {rs : List Row} {made : Made} (r : Given) {a ia : List ℕ} → Held ns (r .nodes) a → 512 < r .nodes → Gave ns rs made r a ia
@@ -104,6 +122,13 @@ set-same [] zero none = refl
 set-same [] (suc i) none = refl
 set-same (n ∷ ns) zero none = refl
 set-same (n ∷ ns) (suc i) none = ap (λ (l : List Necessity). n ∷ l) (set-same ns i none)
+
+-- the stack where entry i changes, or does not
+pub stack-set : (ns : List Necessity) (i : ℕ) {n m : Necessity} → n ≡ m → {c : ℕ} {o r a v : List ℕ} → Stack (set ns i n) c o r a v → Stack (set ns i m) c o r a v
+stack-set ns i e {c} {o} {r} {a} {v} s = subst (λ (k : Necessity). Stack (set ns i k) c o r a v) e s
+
+pub stack-same : (ns : List Necessity) (i : ℕ) (none : Necessity) {m : Necessity} → getD ns i none ≡ m → {c : ℕ} {o r a v : List ℕ} → Stack ns c o r a v → Stack (set ns i m) c o r a v
+stack-same ns i none e {c} {o} {r} {a} {v} s = subst (λ (l : List Necessity). Stack l c o r a v) (set-same ns i none ∙ ap (set ns i) e) s
 
 module _ (t : List Node) (g : Graph) (fk : Fork) (ns : List Necessity) (i : ℕ) (none : Necessity) where
   abbrev n : Necessity
@@ -121,8 +146,7 @@ module _ (t : List Node) (g : Graph) (fk : Fork) (ns : List Necessity) (i : ℕ)
       (record { nodes = held-as (ms ++ []) (sym (append-nil ms)) h; rows = l })
 
   pub stack-out : {c : ℕ} {o r a v : List ℕ} {b : Bool} → b ≡ isReapplied t fk n → b ≡ false → Stack ns c o r a v → Stack (set ns i (then (isReapplied t fk n))) c o r a v
-  stack-out {c} {o} {r} {a} {v} e f s =
-      subst (λ (l : List Necessity). Stack l c o r a v) (set-same ns i none ∙ ap (λ (b : Bool). set ns i (then b)) (sym f ∙ e)) s
+  stack-out e f s = stack-same ns i none (ap then (sym f ∙ e)) s
 
   -- given again
   pub kept-in : {ms : List Node} {rs : List Row} {r : Given} {a ia : List ℕ} {b : Bool} → b ≡ isReapplied t fk n → b ≡ true → Gave ms rs (reapplyNecessity t g (some fk) (length ms) n) r a ia →
@@ -132,4 +156,20 @@ module _ (t : List Node) (g : Graph) (fk : Fork) (ns : List Necessity) (i : ℕ)
       subst (λ (b : Bool). Gave ms rs (cond b (reapplyNecessity t g (some fk) (length ms) n) (record { nodes = []; subtrees = [] })) r a ia) (sym f ∙ e) h
 
   pub stack-in : {c : ℕ} {o r a v : List ℕ} {b : Bool} → b ≡ isReapplied t fk n → b ≡ true → Stack (set ns i (visiting t g n)) c o r a v → Stack (set ns i (then (isReapplied t fk n))) c o r a v
-  stack-in {c} {o} {r} {a} {v} e f s = subst (λ (b : Bool). Stack (set ns i (then b)) c o r a v) (sym f ∙ e) s
+  stack-in e f s = stack-set ns i (ap then (sym f ∙ e)) s
+
+  -- no world to visit: given again or not, nothing comes of it
+  pub kept-idle : length (unvisited g n) ≡ 0 → {ms : List Node} {rs : List Row} (r : Given) {a ia : List ℕ} → Held ms (r .nodes) a → (r .nodes ≤ 512 → Listing rs [] (r .items) (r .nodes) ia) →
+      Gave ms rs (reapplyIfOnPath t g fk (length ms) n) r a ia
+  unfolding reapplyIfOnPath reapplyNecessity
+  kept-idle e {ms} {rs} r {a} {ia} h l =
+      cond-both (λ (m : Made). Gave ms rs m r a ia) (isReapplied t fk n) (giveOn t (some fk) n (unvisited g n) (length ms) (leavesOf t n)) (record { nodes = []; subtrees = [] })
+      (subst (λ (ws : List ℕ). Gave ms rs (giveOn t (some fk) n ws (length ms) (leavesOf t n)) r a ia) (sym (no-length (unvisited g n) e)) (nothing-given t (some fk) n (leavesOf t n) (length ms) r h l))
+      (record { nodes = held-as (ms ++ []) (sym (append-nil ms)) h; rows = l })
+
+  pub stack-idle : length (unvisited g n) ≡ 0 → {c : ℕ} {o r a v : List ℕ} → Stack ns c o r a v → Stack (set ns i (then (isReapplied t fk n))) c o r a v
+  stack-idle e s = stack-same ns i none (go (isReapplied t fk n)) s
+    where
+      go : (b : Bool) → n ≡ then b
+      go true = visiting-idle t g n e
+      go false = refl

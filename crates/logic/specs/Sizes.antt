@@ -3,12 +3,13 @@ use Prim.Native.Nat.{ℕ, _≤_, _<_}
 use mathlib.Core.Path.{_≡_}
 use mathlib.Core.List.{List, _++_}
 use lib.ListN.{length}
-use Rattle.definition.specs.Lists.{elem, filter}
+use Rattle.definition.specs.Lists.{Each, elem, filter}
 use Rattle.definition.specs.Tree.{nodeAt, leaves, path}
 use Rattle.definition.specs.Modality.{Necessity}
 use Rattle.definition.specs.Run.{State, LogicRuleResult}
 use Rattle.definition.specs.Subtree.{Placed, appendLogicRuleResult}
 use Rattle.definition.proofs.Treed.{Treed}
+use Rattle.definition.proofs.Spawned.{Spawned}
 use Rattle.arrays.specs.Listed.{Listed}
 use Rattle.graph.specs.Drawn.{Drawn}
 use Rattle.tree.specs.Lay.{lay, Held}
@@ -28,6 +29,7 @@ module _ (p : Sizes) (ta ea ra la va oa wa : List ℕ) where
   -- a state from which a step is due; q waits beside the node that is taken
   pub record Before (s : State) (q : List ℕ) : Type 0 where
     pub treed : Treed (s .nodes)
+    pub spawned : Each (Spawned (s .nodes)) (s .necessities)
     pub fits : length (s .nodes) ≤ 512
     pub count : length (s .nodes) ≡ p .nodes
     pub laid : ta ≡ lay (s .nodes)

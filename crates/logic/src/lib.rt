@@ -13,6 +13,7 @@ use modality::is_reapplied;
 use modality::leaves_of;
 use modality::leaves_through;
 use modality::unvisited;
+use modality::worlds_on_paths;
 use necessities::formula_at;
 use necessities::row_at;
 use necessities::spawner_at;
@@ -35,10 +36,11 @@ use tree::world_of;
 ghost use mathlib.Core.Path.{_≡_};
 ghost use mathlib.Core.Bool.{cond};
 ghost use mathlib.Core.List.{List, [], _∷_, _++_, map, reverse};
+ghost use mathlib.Core.Option.{Option, some};
 ghost use Prim.Native.Nat.{ℕ, suc, _≤_, _<_, _+_, _-_};
 ghost use lib.ListN.{length, getD, set};
 ghost use Rattle.arrays.specs.Listed.{Listed};
-ghost use Rattle.definition.specs.Lists.{Each, elem, empty, upFrom, filter};
+ghost use Rattle.definition.specs.Lists.{Each, upFrom};
 ghost use Rattle.definition.specs.Records.{Rec, nobody};
 ghost use Rattle.definition.specs.Flags.{Flags};
 ghost use Rattle.definition.specs.Graph.{Graph};
@@ -48,13 +50,15 @@ ghost use Rattle.definition.specs.Modality.{Necessity, Fork, occurs, unvisited,
 ghost use Rattle.definition.specs.Run.{State, applyPossibility, applyNecessity};
 ghost use Rattle.graph.specs.Drawn.{Drawn};
 ghost use Rattle.graph.specs.Logic.{logicOf};
+ghost use Rattle.definition.proofs.Treed.{Treed};
 ghost use Rattle.definition.proofs.Growing.{Steady};
+ghost use Rattle.definition.proofs.Spawned.{Spawned};
 ghost use Rattle.tree.specs.Lay.{lay, Held};
-ghost use Rattle.necessities.specs.Stored.{InWord};
+ghost use Rattle.necessities.specs.Stored.{Row};
 ghost use Rattle.necessities.specs.Stack.{Stack, fresh, visits};
 ghost use Rattle.subtree.specs.Rows as subtrees;
 ghost use Rattle.subtree.specs.Subtree.{subtreeOf, Within, Left};
-ghost use Rattle.modality.specs.Forking.{forkOf};
+ghost use Rattle.modality.specs.Seen.{Seen};
 ghost use Rattle.logic.specs.Gave.{Listing, Gave};
 ghost use Rattle.logic.specs.Sizes.{Before, After, placing, necessityOf};
 
@@ -84,14 +88,24 @@ fn push_given(
     push_item(items, count, leaf, start as u16, (end - start) as u16)
 }
 
-// Path by path, a node for each of the worlds that occurs there.
+// The word of leaf x.
+fn word_at(seen: &[u32; 512], x: ProofTreeNodeID) -> u32
+    ensures { λ r. ⌜ (x .0 < 512 → r ≡ getD (now (seen .entry)) (x .0) 0) ⌝ }
+{
+    let i = x.0 as usize;
+    if 512 <= i {
+        return 0;
+    }
+    seen[i]
+}
+
+// Path by path, a node for each of the worlds that occurs there, as the leaf's word says.
 pub fn give_on(
     tree: &mut [u16; 4608],
-    base: usize,
     len: usize,
     spawner: ProofTreeNodeID,
     formula: FormulaNumber,
-    forking: Forking,
+    seen: &[u32; 512],
     worlds: &[u16; 512],
     m: usize,
     on: &[u16; 512],
@@ -99,10 +113,10 @@ pub fn give_on(
     items: &mut [u16; 1536],
     count: usize,
 ) -> Given
-    ensures { λ r. ⌜ ((t more : List Node) (n : Necessity) (ws ls : List ℕ) (rs : List subtrees.Row) → n .spawner ≡ spawner .0 → n .formula ≡ formula .0
-        → length t ≡ base → Listed ws m (now (worlds .entry)) → m ≤ 512 → Listed ls k (now (on .entry)) → k ≤ 512
+    ensures { λ r. ⌜ ((t more : List Node) (fk : Option Fork) (n : Necessity) (ws ls : List ℕ) (rs : List subtrees.Row) → n .spawner ≡ spawner .0 → n .formula ≡ formula .0
+        → Listed ws m (now (worlds .entry)) → m ≤ 512 → Each (λ v. v < 32) ws → Listed ls k (now (on .entry)) → k ≤ 512 → Each (Seen t fk (now (seen .entry))) ls
         → Held (t ++ more) len (now (tree .entry)) → (len ≤ 512 → Listing rs [] count len (now (items .entry)))
-        → Gave (t ++ more) rs (giveOn t (forkOf forking) n ws (length (t ++ more)) ls) r (now (tree .exit)) (now (items .exit))) ⌝ }
+        → Gave (t ++ more) rs (giveOn t fk n ws (length (t ++ more)) ls) r (now (tree .exit)) (now (items .exit))) ⌝ }
 {
     let mut here = Given {
         nodes: len,
@@ -112,17 +126,8 @@ pub fn give_on(
     while j < k {
         let leaf = ProofTreeNodeID(nth(on, j));
         let start = here.nodes;
-        let end = give_on_leaf(
-            tree,
-            base,
-            start,
-            spawner,
-            formula,
-            forking,
-            leaf,
-            worlds,
-            m,
-        );
+        let word = word_at(seen, leaf);
+        let end = give_on_leaf(tree, start, spawner, formula, word, worlds, m);
         let n = push_given(items, here.items, leaf, start, end);
         here = Given {
             nodes: end,
@@ -141,70 +146,67 @@ pub struct Sizes {
     pub necessities: usize,
 }
 
-// The worlds that a necessity in world u, which has visited these, has still to visit; none where no path is its own.
+// The worlds that the necessity of row k has still to visit.
 fn worlds_to_visit(
     edges: &[u8; 625],
     worlds: usize,
-    visited: u32,
-    u: PossibleWorld,
-    m: usize,
+    rows: &[u16; 1536],
+    visited: &[u32; 512],
+    k: usize,
     out: &mut [u16; 512],
 ) -> usize
-    ensures { λ r. ⌜ ((g : Graph) (n : Necessity) (on : List ℕ) → n .world ≡ u .0 → Drawn g worlds (now (edges .entry)) → InWord (n .visited) visited → length on ≡ m → Listed [] 0 (now (out .entry))
-        → Listed (cond (empty on) [] (unvisited g n)) r (now (out .exit))) ⌝ }
+    ensures { λ r. ⌜ ((g : Graph) (n : Necessity) (leafBits : List ℕ) → Row n k (now (rows .entry)) leafBits (now (visited .entry)) → Drawn g worlds (now (edges .entry)) → Listed [] 0 (now (out .entry))
+        → Listed (unvisited g n) r (now (out .exit))) ⌝ }
 {
-    if m == 0 {
-        return 0;
-    }
-    unvisited(edges, worlds, visited, u, out, 0)
+    let before = visited_at(visited, k);
+    unvisited(edges, worlds, before, world_at(rows, k), out, 0)
 }
 
-// The necessity of row k, i below the top, is given on its paths, and has then visited those worlds.
-pub fn reapply_necessity(
+// The necessity of row k, i below the top, is given on its paths for the listed worlds, which it has then visited if it has a path.
+fn reapply_necessity(
     tree: &mut [u16; 4608],
-    base: usize,
     len: usize,
-    edges: &[u8; 625],
-    worlds: usize,
     rows: &[u16; 1536],
     visited: &mut [u32; 512],
     k: usize,
-    forking: Forking,
+    seen: &[u32; 512],
+    worlds: &[u16; 512],
+    n: usize,
     on: &[u16; 512],
     m: usize,
     items: &mut [u16; 1536],
     count: usize,
 ) -> Given
-    ensures { λ r. ⌜ ((t more : List Node) (g : Graph) (ns : List Necessity) (none : Necessity) (rs : List subtrees.Row) (c i : ℕ) (order leafBits : List ℕ)
+    ensures { λ r. ⌜ ((t more : List Node) (g : Graph) (fk : Option Fork) (ns : List Necessity) (none : Necessity) (rs : List subtrees.Row) (c i : ℕ) (order leafBits : List ℕ)
         (s : Stack ns c order (now (rows .entry)) leafBits (now (visited .entry))) → i < c → k ≡ getD (s .ks) i 0
-        → Drawn g worlds (now (edges .entry)) → length t ≡ base → Listed (leavesOf t (getD ns i none)) m (now (on .entry)) → m ≤ 512
+        → Listed (unvisited g (getD ns i none)) n (now (worlds .entry)) → n ≤ 512 → Each (λ v. v < 32) (unvisited g (getD ns i none))
+        → Listed (leavesOf t (getD ns i none)) m (now (on .entry)) → m ≤ 512 → Each (Seen t fk (now (seen .entry))) (leavesOf t (getD ns i none))
         → Held (t ++ more) len (now (tree .entry)) → (len ≤ 512 → Listing rs [] count len (now (items .entry)))
-        → Gave (t ++ more) rs (reapplyNecessity t g (forkOf forking) (length (t ++ more)) (getD ns i none)) r (now (tree .exit)) (now (items .exit))
+        → Gave (t ++ more) rs (reapplyNecessity t g fk (length (t ++ more)) (getD ns i none)) r (now (tree .exit)) (now (items .exit))
         × Stack (set ns i (visiting t g (getD ns i none))) c order (now (rows .entry)) leafBits (now (visited .exit))) ⌝ }
 {
-    let mut ws = [0u16; 512];
-    let seen = visited_at(visited, k);
-    let n = worlds_to_visit(edges, worlds, seen, world_at(rows, k), m, &mut ws);
     let f = formula_at(rows, k);
     let made = give_on(
         tree,
-        base,
         len,
         spawner_at(rows, k),
         f,
-        forking,
-        &ws,
+        seen,
+        worlds,
         n,
         on,
         m,
         items,
         count,
     );
-    visit(visited, k, &ws, n);
+    if m == 0 {
+        return made;
+    }
+    visit(visited, k, worlds, n);
     made
 }
 
-// The necessity that stands i below the top is given again if one of its paths goes through the forking node.
+// The necessity of row k, i below the top, is given again if it has a world to visit and one of its paths goes through the forking node.
 fn reapply_if_on_path(
     tree: &mut [u16; 4608],
     base: usize,
@@ -212,45 +214,42 @@ fn reapply_if_on_path(
     edges: &[u8; 625],
     worlds: usize,
     rows: &[u16; 1536],
-    leafs: &[u32; 8192],
     visited: &mut [u32; 512],
     k: usize,
     node: ProofTreeNodeID,
-    world: PossibleWorld,
-    all: &[u16; 512],
-    m: usize,
+    seen: &[u32; 512],
     items: &mut [u16; 1536],
 ) -> Given
-    ensures { λ r. ⌜ ((t more : List Node) (g : Graph) (ns : List Necessity) (none : Necessity) (rs : List subtrees.Row) (c i : ℕ) (order : List ℕ) (fk : Fork)
-        (s : Stack ns c order (now (rows .entry)) (now (leafs .entry)) (now (visited .entry))) → i < c → k ≡ getD (s .ks) i 0 → fk ≡ record { node = node .0; world = world .0 }
-        → Drawn g worlds (now (edges .entry)) → length t ≡ base → Listed (leaves t) m (now (all .entry)) → m ≤ 512
+    ensures { λ r. ⌜ ((t more : List Node) (g : Graph) (ns : List Necessity) (none : Necessity) (rs : List subtrees.Row) (c i : ℕ) (order leafBits : List ℕ) (fk : Fork)
+        (s : Stack ns c order (now (rows .entry)) leafBits (now (visited .entry))) → i < c → k ≡ getD (s .ks) i 0 → fk .node ≡ node .0
+        → Drawn g worlds (now (edges .entry)) → length t ≡ base → Treed t → Spawned t (getD ns i none) → Each (Seen t (some fk) (now (seen .entry))) (leaves t)
         → Held (t ++ more) (here .nodes) (now (tree .entry)) → (here .nodes ≤ 512 → Listing rs [] (here .items) (here .nodes) (now (items .entry)))
         → Gave (t ++ more) rs (reapplyIfOnPath t g fk (length (t ++ more)) (getD ns i none)) r (now (tree .exit)) (now (items .exit))
-        × (r .nodes ≤ 512 → Stack (set ns i (cond (isReapplied t fk (getD ns i none)) (visiting t g (getD ns i none)) (getD ns i none))) c order (now (rows .entry)) (now (leafs .entry)) (now (visited .exit)))) ⌝ }
+        × (r .nodes ≤ 512 → Stack (set ns i (cond (isReapplied t fk (getD ns i none)) (visiting t g (getD ns i none)) (getD ns i none))) c order (now (rows .entry)) leafBits (now (visited .exit)))) ⌝ }
 {
     if 512 < here.nodes {
         return here;
     }
-    let mut on = [0u16; 512];
-    let n = leaves_of(tree, base, leafs, k, all, m, &mut on, 0);
-    if is_reapplied(tree, base, node, &on, n) {
-        let forking = Forking {
-            on: true,
-            node,
-            world,
-        };
+    let mut ws = [0u16; 512];
+    let n = worlds_to_visit(edges, worlds, rows, visited, k, &mut ws);
+    if n == 0 {
+        return here;
+    }
+    let spawner = spawner_at(rows, k);
+    if is_reapplied(tree, base, node, spawner) {
+        let mut on = [0u16; 512];
+        let m = leaves_through(tree, base, spawner, &mut on);
         return reapply_necessity(
             tree,
-            base,
             here.nodes,
-            edges,
-            worlds,
             rows,
             visited,
             k,
-            forking,
-            &on,
+            seen,
+            &ws,
             n,
+            &on,
+            m,
             items,
             here.items,
         );
@@ -266,22 +265,19 @@ fn reapply_necessity_after_possibility(
     edges: &[u8; 625],
     worlds: usize,
     rows: &[u16; 1536],
-    leafs: &[u32; 8192],
     visited: &mut [u32; 512],
     order: &mut [u16; 512],
     c: usize,
     node: ProofTreeNodeID,
-    world: PossibleWorld,
-    all: &[u16; 512],
-    m: usize,
+    seen: &[u32; 512],
     items: &mut [u16; 1536],
 ) -> Given
-    ensures { λ r. ⌜ ((t more : List Node) (g : Graph) (ns : List Necessity) (rs : List subtrees.Row) (fk : Fork)
-        → Stack ns c (now (order .entry)) (now (rows .entry)) (now (leafs .entry)) (now (visited .entry)) → fk ≡ record { node = node .0; world = world .0 }
-        → Drawn g worlds (now (edges .entry)) → length t ≡ base → Listed (leaves t) m (now (all .entry)) → m ≤ 512
+    ensures { λ r. ⌜ ((t more : List Node) (g : Graph) (ns : List Necessity) (rs : List subtrees.Row) (leafBits : List ℕ) (fk : Fork)
+        → Stack ns c (now (order .entry)) (now (rows .entry)) leafBits (now (visited .entry)) → fk .node ≡ node .0
+        → Drawn g worlds (now (edges .entry)) → length t ≡ base → Treed t → Each (Spawned t) ns → (0 < c → Each (Seen t (some fk) (now (seen .entry))) (leaves t))
         → Held (t ++ more) (begun .nodes) (now (tree .entry)) → (begun .nodes ≤ 512 → Listing rs [] (begun .items) (begun .nodes) (now (items .entry)))
         → Gave (t ++ more) rs (reapplyNecessityAfterPossibility t g fk (length (t ++ more)) ns) r (now (tree .exit)) (now (items .exit))
-        × (r .nodes ≤ 512 → Stack (necessitiesAfterPossibility t g fk ns) c (now (order .exit)) (now (rows .entry)) (now (leafs .entry)) (now (visited .exit)))) ⌝ }
+        × (r .nodes ≤ 512 → Stack (necessitiesAfterPossibility t g fk ns) c (now (order .exit)) (now (rows .entry)) leafBits (now (visited .exit)))) ⌝ }
 {
     let mut here = begun;
     let mut i: usize = 0;
@@ -297,13 +293,10 @@ fn reapply_necessity_after_possibility(
             edges,
             worlds,
             rows,
-            leafs,
             visited,
             k,
             node,
-            world,
-            all,
-            m,
+            seen,
             items,
         );
         i += 1;
@@ -339,19 +332,16 @@ fn store_necessity(
     x: ProofTreeNodeID,
     f: FormulaNumber,
     tree: &[u16; 4608],
-    all: &[u16; 512],
-    m: usize,
     rows: &mut [u16; 1536],
     leafs: &mut [u32; 8192],
     visited: &mut [u32; 512],
     order: &mut [u16; 512],
 ) -> usize
     ensures { λ r. ⌜ ((s : State) (q ea wa : List ℕ) → Before p (now (tree .entry)) ea (now (rows .entry)) (now (leafs .entry)) (now (visited .entry)) (now (order .entry)) wa s q
-        → Listed (leaves (s .nodes)) m (now (all .entry)) → m ≤ 512
         → Stack (necessityOf s (x .0) (f .0) ∷ s .necessities) r (now (order .exit)) (now (rows .exit)) (now (leafs .exit)) (now (visited .exit))) ⌝ }
 {
     let mut stored = [0u16; 512];
-    let n = leaves_through(tree, p.nodes, x, all, m, &mut stored, 0);
+    let n = leaves_through(tree, p.nodes, x, &mut stored);
     let w = world_of(tree, x);
     store(
         order,
@@ -386,28 +376,31 @@ pub fn apply_necessity(
         → After r (now (tree .exit)) (now (edges .exit)) (now (rows .exit)) (now (leafs .exit)) (now (visited .exit)) (now (order .exit)) (now (wait .exit)) (applyNecessity F s (x .0) more (f .0)) (placing s q (applyNecessity F s (x .0) more (f .0)))) ⌝ }
 {
     let worlds = initialize_graph_if_needed(edges, p.worlds, logic);
-    let mut all = [0u16; 512];
-    let m = leaves_below(tree, ProofTreeNodeID(0), p.nodes, &mut all, 0);
-    let c = store_necessity(p, x, f, tree, &all, m, rows, leafs, visited, order);
+    let c = store_necessity(p, x, f, tree, rows, leafs, visited, order);
     let k = row_at(order, c, 0);
+    let mut below = [0u16; 512];
+    let m = leaves_through(tree, p.nodes, x, &mut below);
     let mut on = [0u16; 512];
-    let own = leaves_of(tree, p.nodes, leafs, k, &all, m, &mut on, 0);
+    let own = leaves_of(tree, p.nodes, leafs, k, &below, m, &mut on, 0);
     let forking = Forking {
         on: false,
         node: x,
         world: PossibleWorld::ZERO,
     };
+    let mut seen = [0u32; 512];
+    worlds_on_paths(tree, p.nodes, forking, &on, own, &mut seen);
+    let mut ws = [0u16; 512];
+    let n = worlds_to_visit(edges, worlds, rows, visited, k, &mut ws);
     let mut items = [0u16; 1536];
     let made = reapply_necessity(
         tree,
         p.nodes,
-        p.nodes,
-        edges,
-        worlds,
         rows,
         visited,
         k,
-        forking,
+        &seen,
+        &ws,
+        n,
         &on,
         own,
         &mut items,
@@ -486,6 +479,31 @@ fn place_fork(
     append_logic_rule_result(tree, top.nodes, items, made.items, wait, top.waiting)
 }
 
+// Stores the worlds that occur on each leaf's path while x forks to world v; nothing where no necessity asks for them.
+fn worlds_at_fork(
+    tree: &[u16; 4608],
+    base: usize,
+    x: ProofTreeNodeID,
+    v: PossibleWorld,
+    necessities: usize,
+    seen: &mut [u32; 512],
+)
+    ensures { λ r. ⌜ ((t : List Node) → Treed t → length t ≡ base → base ≤ 512 → now (tree .entry) ≡ lay t → length (now (seen .entry)) ≡ 512 → 0 < necessities
+        → Each (Seen t (some (record { node = x .0; world = v .0 })) (now (seen .exit))) (leaves t)) ⌝ }
+{
+    if necessities == 0 {
+        return;
+    }
+    let forking = Forking {
+        on: true,
+        node: x,
+        world: v,
+    };
+    let mut all = [0u16; 512];
+    let m = leaves_below(tree, ProofTreeNodeID(0), base, &mut all, 0);
+    worlds_on_paths(tree, base, forking, &all, m, seen);
+}
+
 // A new world, with the formula and its comment; then the stored necessities whose paths go through the node.
 pub fn apply_possibility(
     logic: NormalModalLogic,
@@ -507,8 +525,8 @@ pub fn apply_possibility(
     let known = initialize_graph_if_needed(edges, p.worlds, logic);
     let v = forked_world(known);
     let worlds = fork_world(edges, known, world_of(tree, x), logic);
-    let mut all = [0u16; 512];
-    let m = leaves_below(tree, ProofTreeNodeID(0), p.nodes, &mut all, 0);
+    let mut seen = [0u32; 512];
+    worlds_at_fork(tree, p.nodes, x, v, p.necessities, &mut seen);
     let begun = Given {
         nodes: fork_nodes(tree, p.nodes, x, f, v),
         items: 0,
@@ -521,14 +539,11 @@ pub fn apply_possibility(
         edges,
         worlds,
         rows,
-        leafs,
         visited,
         order,
         p.necessities,
         x,
-        v,
-        &all,
-        m,
+        &seen,
         &mut items,
     );
     let placed = place_fork(tree, p.nodes, made, x, &items, wait, p.waiting);

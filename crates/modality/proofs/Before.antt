@@ -1,25 +1,23 @@
 -- Reads of a row of bits, and of the tree as it stood before a step.
 use Prim.Native.Nat.{ℕ, _+_, _*_, _<_, _≤_}
 use mathlib.Core.Path.{_≡_, refl, sym, ap, _∙_}
-use mathlib.Core.Bool.{Bool, true, false, cond, _&&_, _||_}
+use mathlib.Core.Bool.{Bool, true, false, _&&_}
 use mathlib.Core.List.{List, _++_}
-use mathlib.Core.Option.{Option, none, some}
 use native.Mathlib.Omega.{arith}
-use lib.Dec.{ltb, eqb}
+use lib.Dec.{ltb}
 use lib.ListN.{length, List·getD-eq-default}
 use borrow.Author.Tests.{lt-ltb, le-ltb}
 use Rattle.bits.specs.Bits.{bitAt, Bits}
-use Rattle.definition.specs.Lists.{any, elem}
+use Rattle.definition.specs.Lists.{elem}
 use Rattle.definition.specs.Records.{nobody}
-use Rattle.definition.specs.Tree.{Node, newNode, nodeAt, path}
-use Rattle.definition.specs.Modality.{Necessity, Fork, forkedOn, occurs}
+use Rattle.definition.specs.Tree.{Node, newNode, nodeAt}
+use Rattle.definition.specs.Modality.{Necessity}
 use Rattle.definition.proofs.Nodes.{node-append}
-use Rattle.tree.specs.Lay.{lay}
+use Rattle.definition.proofs.Treed.{placed}
+use Rattle.tree.specs.Lay.{placeCode, lay}
+use Rattle.tree.proofs.Paths.{out-code, in-code}
 use Rattle.necessities.specs.Stored.{InRow}
 use Rattle.modality.specs.Stands.{Stands}
-use Rattle.modality.specs.Forking.{forkOf}
-use Rattle.modality.specs.declared.Forking.{Forking}
-use Rattle.modality.proofs.Lists.{or-first, or-second}
 
 -- ---- a row of bits
 module _ {k : ℕ} {l words : List ℕ} (d : InRow k l words) (y : ℕ) where
@@ -40,30 +38,22 @@ module _ (get : Node → ℕ) {t : List Node} {base : ℕ} {a : List ℕ} (d : S
   pub stands-in : {v : ℕ} → x < base → ((ns : List Node) → length ns ≤ 512 → a ≡ lay ns → v ≡ get (nodeAt ns x)) → v ≡ get (nodeAt t x)
   stands-in h f = f (t ++ d .more) (d .room) (d .laid) ∙ ap get (node-append t (d .more) x (omega (arith, d .count)))
 
--- ---- a world on a path
-module _ (t : List Node) (k : Option Fork) (leaf v : ℕ) {x : Bool} (e : x ≡ any (λ y. eqb (nodeAt t y .world) v) (path t leaf)) where
-  pub occurs-there : x ≡ true → x ≡ occurs t k (path t leaf) v
-  unfolding occurs
-  occurs-there h = or-first e (forkedOn k (path t leaf) v) h
+-- ---- in the tree as it stood
+module _ {t : List Node} {base : ℕ} {a : List ℕ} (d : Stands t base a) (x : ℕ) where
+  pub placed-out : base ≤ x → false ≡ placed (nodeAt t x .place)
+  unfolding placed
+  placed-out h = ap (λ (n : Node). placed (n .place)) (sym (List·getD-eq-default t (newNode nobody nobody nobody) (omega (arith, d .count))))
 
-  pub occurs-forked : {y : Bool} → x ≡ false → y ≡ forkedOn k (path t leaf) v → y ≡ occurs t k (path t leaf) v
-  unfolding occurs
-  occurs-forked h f = or-second e h f
+  module _ (low : x < base) {v : ℕ} (e : (ns : List Node) → length ns ≤ 512 → a ≡ lay ns → v ≡ placeCode (nodeAt ns x .place)) where
+    code : v ≡ placeCode (nodeAt t x .place)
+    code = stands-in (λ n. placeCode (n .place)) d x low e
 
-pub forked-by : (f : Forking) (xs : List ℕ) (v : ℕ) → (f .on && (eqb v (f .world .0) && elem (f .node .0) xs)) ≡ forkedOn (forkOf f) xs v
-unfolding forkOf forkedOn
-forked-by f xs v = go (f .on)
-  where
-    k : Fork
-    k = record { node = f .node .0; world = f .world .0 }
+    pub placed-none : v ≡ 65535 → false ≡ placed (nodeAt t x .place)
+    placed-none h = sym (out-code (nodeAt t x .place) (sym code ∙ h))
 
-    go : (b : Bool) → (b && (eqb v (f .world .0) && elem (f .node .0) xs)) ≡ forkedOn (cond b (some k) none) xs v
-    go true = refl
-    go false = refl
+    pub placed-some : (v ≡ 65535 → ⊥) → true ≡ placed (nodeAt t x .place)
+    placed-some h = sym (in-code (nodeAt t x .place) (λ q. h (code ∙ q)))
 
 -- what a loop up a path looks for
-abbrev pub inWorld : List Node → ℕ → ℕ → Bool
-inWorld t v x = eqb (nodeAt t x .world) v
-
 abbrev pub stored : Necessity → ℕ → Bool
 stored n y = elem y (n .leaves)

@@ -15,7 +15,7 @@ use Rattle.definition.specs.Modality.{Necessity, runsThrough}
 use Rattle.definition.proofs.Lists.{either, from-get}
 use Rattle.definition.proofs.Lists.{filter-append}
 
-eqb-sym : (x y : ℕ) → eqb x y ≡ eqb y x
+pub eqb-sym : (x y : ℕ) → eqb x y ≡ eqb y x
 eqb-sym x y = ⊎-elim (λ t. t ∙ sym (eq-eqb y x (sym (eqb-true x y t)))) (λ t. t ∙ sym (ne-eqb y x (λ e. eqb-false x y t (sym e)))) (either (eqb x y))
 
 -- ---- any
@@ -23,7 +23,7 @@ any-ext : (p q : ℕ → Bool) → ((x : ℕ) → p x ≡ q x) → (xs : List �
 any-ext p q e [] = refl
 any-ext p q e (x ∷ xs) = ap (λ (b : Bool). b || any p xs) (e x) ∙ ap (λ (b : Bool). q x || b) (any-ext p q e xs)
 
-any-none : (ys : List ℕ) → any (λ y. false) ys ≡ false
+pub any-none : (ys : List ℕ) → any (λ y. false) ys ≡ false
 any-none [] = refl
 any-none (y ∷ ys) = any-none ys
 
@@ -33,7 +33,7 @@ or-swap false true true d = refl
 or-swap false true false d = refl
 or-swap false false c d = refl
 
-any-or : (p q : ℕ → Bool) (ys : List ℕ) → any (λ y. p y || q y) ys ≡ (any p ys || any q ys)
+pub any-or : (p q : ℕ → Bool) (ys : List ℕ) → any (λ y. p y || q y) ys ≡ (any p ys || any q ys)
 any-or p q [] = refl
 any-or p q (y ∷ ys) = ap (λ (b : Bool). (p y || q y) || b) (any-or p q ys) ∙ or-swap (p y) (q y) (any p ys) (any q ys)
 

@@ -1,2 +1,3 @@
 pub mod Stands
 pub mod Forking
+pub mod Seen

@@ -2,11 +2,15 @@
 // Of a call whose arrays lay out nothing of the kind that its contract names: it ends and stays in bounds; its outcome is free.
 use arrays::nth;
 use arrays::push;
+use bits::bit;
+use bits::with_bit;
 use formula::FormulaNumber;
 use graph::PossibleWorld;
 use tree::ProofTreeNodeID;
+use tree::leaves_below;
 use tree::new_node;
 use tree::parent_of;
+use tree::place_of;
 use tree::world_of;
 ghost use mathlib.Core.Path.{_≡_};
 ghost use mathlib.Core.Bool.{Bool, cond, _&&_, _||_, not};
@@ -15,15 +19,19 @@ ghost use Prim.Native.Nat.{ℕ, _≤_, _<_, _+_};
 ghost use lib.Dec.{eqb};
 ghost use lib.ListN.{length, getD, set};
 ghost use Rattle.arrays.specs.Listed.{Listed};
-ghost use Rattle.definition.specs.Lists.{any, elem, filter};
+ghost use Rattle.bits.specs.Bits.{bitOf};
+ghost use Rattle.definition.specs.Lists.{Each, elem, filter};
 ghost use Rattle.definition.specs.Graph.{Graph, edge};
 ghost use Rattle.definition.specs.Tree.{Node, nodeAt, newNode, path, leaves};
-ghost use Rattle.definition.specs.Modality.{Necessity, Fork, runsThrough, forkedOn, occurs, unvisited, leavesOf, isReapplied};
+ghost use Rattle.definition.specs.Modality.{Necessity, Fork, runsThrough, occurs, unvisited, isReapplied};
+ghost use Rattle.definition.proofs.Treed.{placed, Treed};
+ghost use Rattle.definition.proofs.Spawned.{Spawned};
 ghost use Rattle.graph.specs.Drawn.{Drawn};
 ghost use Rattle.tree.specs.Lay.{Held};
 ghost use Rattle.necessities.specs.Stored.{InRow, InWord};
 ghost use Rattle.modality.specs.Stands.{Stands};
 ghost use Rattle.modality.specs.Forking.{forkOf};
+ghost use Rattle.modality.specs.Seen.{brings, Seen};
 
 // A fork in progress, where `on`: the forking node and the new world.
 pub struct Forking {
@@ -100,30 +108,6 @@ pub fn path_runs_through(
     false
 }
 
-// A node of the path is in world v.
-pub fn world_occurs(
-    tree: &[u16; 4608],
-    base: usize,
-    leaf: ProofTreeNodeID,
-    v: PossibleWorld,
-) -> bool
-    ensures { λ r. ⌜ ((t : List Node) → Stands t base (now (tree .entry)) → r ≡ any (λ x. eqb (nodeAt t x .world) (v .0)) (path t (leaf .0))) ⌝ }
-{
-    let mut cur = leaf;
-    let mut j: usize = 0;
-    while j < base {
-        if cur.is_none() {
-            return false;
-        }
-        if world_before(tree, base, cur).is(v) {
-            return true;
-        }
-        cur = parent_before(tree, base, cur);
-        j += 1;
-    }
-    false
-}
-
 // The path goes through node x.
 pub fn path_goes_through(
     tree: &[u16; 4608],
@@ -148,34 +132,6 @@ pub fn path_goes_through(
     false
 }
 
-// v is the new world of a fork whose node is on the path.
-fn forked_on(
-    tree: &[u16; 4608],
-    base: usize,
-    forking: Forking,
-    leaf: ProofTreeNodeID,
-    v: PossibleWorld,
-) -> bool
-    ensures { λ r. ⌜ ((t : List Node) → Stands t base (now (tree .entry)) → r ≡ forkedOn (forkOf forking) (path t (leaf .0)) (v .0)) ⌝ }
-{
-    let node = forking.node;
-    let world = forking.world;
-    forking.on && (v.is(world) && path_goes_through(tree, base, node, leaf))
-}
-
-// World v occurs on the path; the new world of a fork does on the paths through the forking node.
-pub fn occurs(
-    tree: &[u16; 4608],
-    base: usize,
-    forking: Forking,
-    leaf: ProofTreeNodeID,
-    v: PossibleWorld,
-) -> bool
-    ensures { λ r. ⌜ ((t : List Node) → Stands t base (now (tree .entry)) → r ≡ occurs t (forkOf forking) (path t (leaf .0)) (v .0)) ⌝ }
-{
-    world_occurs(tree, base, leaf, v) || forked_on(tree, base, forking, leaf, v)
-}
-
 // One entry more, if it is to be kept.
 fn push_if(out: &mut [u16; 512], n: usize, v: u16, keep: bool) -> usize
     ensures { λ r. ⌜ ((l : List ℕ) → Listed l n (now (out .entry)) → Listed (l ++ cond keep (v ∷ []) []) r (now (out .exit))) ⌝ }
@@ -186,7 +142,7 @@ fn push_if(out: &mut [u16; 512], n: usize, v: u16, keep: bool) -> usize
     n
 }
 
-// Of all leaves, those whose paths run through a leaf stored in row k.
+// Of the listed leaves, those whose paths run through a leaf stored in row k.
 pub fn leaves_of(
     tree: &[u16; 4608],
     base: usize,
@@ -197,8 +153,8 @@ pub fn leaves_of(
     out: &mut [u16; 512],
     c: usize,
 ) -> usize
-    ensures { λ r. ⌜ ((t : List Node) (n : Necessity) (l : List ℕ) → Stands t base (now (tree .entry)) → InRow k (n .leaves) (now (leafs .entry)) → Listed (leaves t) m (now (all .entry)) → m ≤ 512
-        → Listed l c (now (out .entry)) → Listed (l ++ leavesOf t n) r (now (out .exit))) ⌝ }
+    ensures { λ r. ⌜ ((t : List Node) (n : Necessity) (ls l : List ℕ) → Stands t base (now (tree .entry)) → InRow k (n .leaves) (now (leafs .entry)) → Listed ls m (now (all .entry)) → m ≤ 512
+        → Listed l c (now (out .entry)) → Listed (l ++ filter (λ leaf. runsThrough n (path t leaf)) ls) r (now (out .exit))) ⌝ }
 {
     let mut n = c;
     let mut j: usize = 0;
@@ -211,49 +167,136 @@ pub fn leaves_of(
     n
 }
 
-// Of all leaves, those whose paths go through node x.
+// Node x is in the tree as it stood.
+fn is_placed_before(tree: &[u16; 4608], base: usize, x: ProofTreeNodeID) -> bool
+    ensures { λ r. ⌜ ((t : List Node) → Stands t base (now (tree .entry)) → r ≡ placed (nodeAt t (x .0) .place)) ⌝ }
+{
+    if base <= x.0 as usize {
+        return false;
+    }
+    if place_of(tree, x) == 65535 {
+        return false;
+    }
+    true
+}
+
+// The leaves whose paths go through node x: those at and below it, if it is in the tree.
 pub fn leaves_through(
     tree: &[u16; 4608],
     base: usize,
     x: ProofTreeNodeID,
-    all: &[u16; 512],
-    m: usize,
     out: &mut [u16; 512],
-    c: usize,
 ) -> usize
-    ensures { λ r. ⌜ ((t : List Node) (l : List ℕ) → Stands t base (now (tree .entry)) → Listed (leaves t) m (now (all .entry)) → m ≤ 512
-        → Listed l c (now (out .entry)) → Listed (l ++ filter (λ leaf. elem (x .0) (path t leaf)) (leaves t)) r (now (out .exit))) ⌝ }
+    ensures { λ r. ⌜ ((t : List Node) → Treed t → Stands t base (now (tree .entry)) → Listed [] 0 (now (out .entry)) → Listed (filter (λ leaf. elem (x .0) (path t leaf)) (leaves t)) r (now (out .exit))) ⌝ }
 {
-    let mut n = c;
-    let mut j: usize = 0;
-    while j < m {
-        let leaf = nth(all, j);
-        let goes = path_goes_through(tree, base, x, ProofTreeNodeID(leaf));
-        n = push_if(out, n, leaf, goes);
-        j += 1;
+    if is_placed_before(tree, base, x) {
+        return leaves_below(tree, x, base, out, 0);
     }
-    n
+    0
 }
 
-// One of these paths goes through the forking node.
+// A path of the necessity goes through the forking node: both are in the tree, and one stands above the other.
 pub fn is_reapplied(
     tree: &[u16; 4608],
     base: usize,
     node: ProofTreeNodeID,
-    on: &[u16; 512],
-    m: usize,
+    spawner: ProofTreeNodeID,
 ) -> bool
-    ensures { λ r. ⌜ ((t : List Node) (k : Fork) (n : Necessity) → k .node ≡ node .0 → Stands t base (now (tree .entry)) → Listed (leavesOf t n) m (now (on .entry)) → m ≤ 512 → r ≡ isReapplied t k n) ⌝ }
+    ensures { λ r. ⌜ ((t : List Node) (k : Fork) (n : Necessity) → Treed t → Spawned t n → k .node ≡ node .0 → n .spawner ≡ spawner .0 → Stands t base (now (tree .entry)) → r ≡ isReapplied t k n) ⌝ }
 {
-    let mut j: usize = 0;
-    while j < m {
-        let leaf = ProofTreeNodeID(nth(on, j));
-        if path_goes_through(tree, base, node, leaf) {
-            return true;
+    if is_placed_before(tree, base, node) {
+        if is_placed_before(tree, base, spawner) {
+            if path_goes_through(tree, base, spawner, node) {
+                return true;
+            }
+            return path_goes_through(tree, base, node, spawner);
         }
-        j += 1;
     }
     false
+}
+
+// The word with the bit of world v, which has one if it is below 32.
+fn with_world(word: u32, v: PossibleWorld) -> u32
+    ensures { λ r. ⌜ ((k : ℕ) → k < 32 → bitOf r k ≡ (eqb (v .0) k || bitOf word k)) ⌝ }
+{
+    if 32 <= v.0 {
+        return word;
+    }
+    with_bit(word, v.0 as usize)
+}
+
+// x is the node of the fork in progress.
+fn forks_at(forking: Forking, x: ProofTreeNodeID) -> bool
+    ensures { λ r. ⌜ r ≡ (forking .on && eqb (forking .node .0) (x .0)) ⌝ }
+{
+    let node = forking.node;
+    forking.on && node.is(x)
+}
+
+// The word with the worlds that node x brings to its paths: its own, and the new world if it is the forking node.
+fn with_worlds(
+    tree: &[u16; 4608],
+    base: usize,
+    forking: Forking,
+    word: u32,
+    x: ProofTreeNodeID,
+) -> u32
+    ensures { λ r. ⌜ ((t : List Node) → Stands t base (now (tree .entry)) → (v : ℕ) → v < 32 → bitOf r v ≡ (brings t (forkOf forking) v (x .0) || bitOf word v)) ⌝ }
+{
+    let here = with_world(word, world_before(tree, base, x));
+    if forks_at(forking, x) {
+        let world = forking.world;
+        return with_world(here, world);
+    }
+    here
+}
+
+// The worlds that occur on the path of a leaf; the new world of a fork does on the paths through the forking node.
+fn worlds_on(tree: &[u16; 4608], base: usize, forking: Forking, leaf: ProofTreeNodeID) -> u32
+    ensures { λ r. ⌜ ((t : List Node) → Stands t base (now (tree .entry)) → (v : ℕ) → v < 32 → bitOf r v ≡ occurs t (forkOf forking) (path t (leaf .0)) v) ⌝ }
+{
+    let mut word: u32 = 0;
+    let mut cur = leaf;
+    let mut j: usize = 0;
+    while j < base {
+        if cur.is_none() {
+            return word;
+        }
+        word = with_worlds(tree, base, forking, word, cur);
+        cur = parent_before(tree, base, cur);
+        j += 1;
+    }
+    word
+}
+
+// Stores the word of leaf x.
+fn put_word(seen: &mut [u32; 512], x: u16, word: u32)
+    ensures { λ r. ⌜ (x < 512 → now (seen .exit) ≡ set (now (seen .entry)) x word) ⌝ }
+{
+    let i = x as usize;
+    if 512 <= i {
+        return;
+    }
+    seen[i] = word;
+}
+
+// Stores the worlds that occur on the paths of the listed leaves, each at its leaf.
+pub fn worlds_on_paths(
+    tree: &[u16; 4608],
+    base: usize,
+    forking: Forking,
+    on: &[u16; 512],
+    m: usize,
+    seen: &mut [u32; 512],
+)
+    ensures { λ r. ⌜ ((t : List Node) (ls : List ℕ) → Stands t base (now (tree .entry)) → Listed ls m (now (on .entry)) → m ≤ 512 → Each (λ l. l < 512) ls → length (now (seen .entry)) ≡ 512
+        → Each (Seen t (forkOf forking) (now (seen .exit))) ls) ⌝ }
+{
+    for j in 0..m {
+        let leaf = nth(on, j);
+        let word = worlds_on(tree, base, forking, ProofTreeNodeID(leaf));
+        put_word(seen, leaf, word);
+    }
 }
 
 // u reaches v, and v is not one of the worlds visited.
@@ -305,27 +348,25 @@ fn new_node_if(
     len
 }
 
-// On one path: a node for each of the worlds that occurs there.
+// On one path: a node for each of the worlds that is among those that occur there.
 pub fn give_on_leaf(
     tree: &mut [u16; 4608],
-    base: usize,
     len: usize,
     spawner: ProofTreeNodeID,
     formula: FormulaNumber,
-    forking: Forking,
-    leaf: ProofTreeNodeID,
+    here: u32,
     worlds: &[u16; 512],
     m: usize,
 ) -> usize
-    ensures { λ r. ⌜ ((t more : List Node) (ws : List ℕ) → length t ≡ base → Listed ws m (now (worlds .entry)) → m ≤ 512 → Held (t ++ more) len (now (tree .entry))
-        → Held ((t ++ more) ++ map (newNode (spawner .0) (formula .0)) (filter (occurs t (forkOf forking) (path t (leaf .0))) ws)) r (now (tree .exit))) ⌝ }
+    ensures { λ r. ⌜ ((ns : List Node) (p : ℕ → Bool) (ws : List ℕ) → Listed ws m (now (worlds .entry)) → m ≤ 512 → Each (λ v. v < 32) ws → ((v : ℕ) → v < 32 → bitOf here v ≡ p v)
+        → Held ns len (now (tree .entry)) → Held (ns ++ map (newNode (spawner .0) (formula .0)) (filter p ws)) r (now (tree .exit))) ⌝ }
 {
     let mut n = len;
     let mut j: usize = 0;
     while j < m {
-        let v = PossibleWorld(nth(worlds, j));
-        let here = occurs(tree, base, forking, leaf, v);
-        n = new_node_if(tree, n, spawner, formula, v, here);
+        let v = nth(worlds, j);
+        let occurs = bit(here, v as usize);
+        n = new_node_if(tree, n, spawner, formula, PossibleWorld(v), occurs);
         j += 1;
     }
     n

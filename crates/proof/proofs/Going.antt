@@ -8,6 +8,7 @@ use Rattle.definition.specs.Flags.{Flags}
 use Rattle.definition.specs.Run.{State, step, steps, stops, run}
 use Rattle.definition.proofs.Ready.{Fit, fit-step}
 use Rattle.definition.proofs.Fresh.{Watch, watch-step}
+use Rattle.definition.proofs.Spawned.{AllRooted, rooted-step}
 use Rattle.proof.specs.declared.Progress.{Progress}
 use Rattle.proof.specs.Kept.{Kept}
 
@@ -29,12 +30,13 @@ pub record Going (F : Flags) (k : ℕ) (s : State) (n : ℕ) (p : Progress) (fa 
   pub now : State
   pub fit : Fit F k now
   pub watch : Watch F now
+  pub rooted : AllRooted now
   pub kept : Kept now p fa ta ea ra la va oa wa ca
   pub ends : run (513 - n) F now ≡ run 513 F s
 
 module _ {F : Flags} {k : ℕ} {s : State} {n : ℕ} {p : Progress} {fa ta ea ra la va oa wa ca : List ℕ} where
-  pub going-start : Fit F k s → Watch F s → Kept s p fa ta ea ra la va oa wa ca → n ≡ 0 → Going F k s n p fa ta ea ra la va oa wa ca
-  going-start f w h e = record { now = s; fit = f; watch = w; kept = h; ends = ap (λ (m : ℕ). run (513 - m) F s) e }
+  pub going-start : Fit F k s → Watch F s → AllRooted s → Kept s p fa ta ea ra la va oa wa ca → n ≡ 0 → Going F k s n p fa ta ea ra la va oa wa ca
+  going-start f w a h e = record { now = s; fit = f; watch = w; rooted = a; kept = h; ends = ap (λ (m : ℕ). run (513 - m) F s) e }
 
   pub going-stops : (g : Going F k s n p fa ta ea ra la va oa wa ca) {b : Bool} → b ≡ stops (g .now) → b ≡ true → Kept (run 513 F s) p fa ta ea ra la va oa wa ca
   going-stops g e t = subst (λ (z : State). Kept z p fa ta ea ra la va oa wa ca) (sym (run-stopped (513 - n) F (g .now) (sym e ∙ t)) ∙ g .ends) (g .kept)
@@ -52,6 +54,7 @@ module _ {F : Flags} {k : ℕ} {s : State} {n : ℕ} {p : Progress} {fa ta ea ra
         now = step F (g .now);
         fit = fit-step F k (g .now) e (g .fit);
         watch = watch-step F k (g .now) (g .fit) e (g .watch);
+        rooted = rooted-step F k (g .now) (g .fit) e (g .rooted);
         kept = next;
         ends = sym (run-next (513 - (n + 1)) F (g .now) e) ∙ ap (λ (m : ℕ). run m F (g .now)) (sym d) ∙ g .ends;
       }

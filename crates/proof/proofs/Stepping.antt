@@ -20,12 +20,13 @@ use Rattle.definition.specs.Modality.{Necessity}
 use Rattle.definition.specs.Queue as D
 use Rattle.definition.specs.Run
 use Rattle.definition.specs.Run.{State, applyHere, applyPossibility, applyNecessity, applyRule, apply, checkedForContradictions, checkForContradictions, appended, stepBy, step, ended, stops}
-use Rattle.definition.proofs.Lists.{true-false, or-left, or-right}
+use Rattle.definition.proofs.Lists.{true-false, or-left, or-right, each-map}
 use Rattle.definition.proofs.Count.{Counted, checked-both, pop-some, Out, pop-out, appended-counted}
 use Rattle.definition.proofs.Waiting.{queued, classes-appended, classes-checked}
 use Rattle.definition.proofs.Priest.{made-two}
 use Rattle.definition.proofs.Ready.{Fit, Ready, ready}
 use Rattle.definition.proofs.Fresh.{Since, Watch, since-step}
+use Rattle.definition.proofs.Spawned.{Rooted, AllRooted}
 use Rattle.formula.specs.Recorded.{Recorded}
 use Rattle.formula.proofs.Recorded.{recorded-fits}
 use Rattle.graph.specs.Drawn.{Drawn}
@@ -129,11 +130,12 @@ checked-laid F s {p} {fa} {ta} {ea} {ra} {la} {va} {oa} {wa} {ca} r g n w k e no
     }
 
 -- the state before the rule
-pub laid-before : {n : ℕ} {s : State} {q : List ℕ} {p : Progress} {fa ta ea ra la va oa wa ca wb : List ℕ} → Ready s → Laid s p fa ta ea ra la va oa wa ca → Listed q n wb →
+pub laid-before : {n : ℕ} {s : State} {q : List ℕ} {p : Progress} {fa ta ea ra la va oa wa ca wb : List ℕ} → Ready s → AllRooted s → Laid s p fa ta ea ra la va oa wa ca → Listed q n wb →
     Before (record { nodes = p .nodes; waiting = n; worlds = p .worlds; necessities = p .necessities }) ta ea ra la va oa wb s q
-laid-before r l w =
+laid-before {s = s} r a l w =
     record {
       treed = r .treed;
+      spawned = each-map (λ n (o : Rooted (s .nodes) n). o .spawned) (s .necessities) (a (omega (arith, r .nodes)));
       fits = r .nodes;
       count = l .count;
       laid = l .nodes;

@@ -29,6 +29,7 @@ ghost use Rattle.definition.specs.Contradiction.{pairs, markAll, isPair};
 ghost use Rattle.definition.specs.Run.{State, applyHere, applyPossibility, applyNecessity, applyRule, checkForContradictions, step, stops, run};
 ghost use Rattle.definition.proofs.Ready.{Fit};
 ghost use Rattle.definition.proofs.Fresh.{Since, Watch};
+ghost use Rattle.definition.proofs.Spawned.{AllRooted};
 ghost use Rattle.formula.specs.Recorded.{Recorded};
 ghost use Rattle.graph.specs.Logic.{logicOf};
 ghost use Rattle.tree.specs.Lay.{Held};
@@ -212,7 +213,7 @@ pub fn step(
     wait: &mut [u16; 512],
     classes: &mut [u16; 512],
 ) -> Progress
-    ensures { λ r. ⌜ ((F : Flags) (k : ℕ) (s : State) → Flagged F logic skip → Fit F k s → Watch F s → stops s ≡ false
+    ensures { λ r. ⌜ ((F : Flags) (k : ℕ) (s : State) → Flagged F logic skip → Fit F k s → Watch F s → AllRooted s → stops s ≡ false
         → Kept s p (now (formulas .entry)) (now (tree .entry)) (now (edges .entry)) (now (rows .entry)) (now (leaves .entry)) (now (visited .entry)) (now (order .entry)) (now (wait .entry)) (now (classes .entry))
         → Kept (step F s) r (now (formulas .exit)) (now (tree .exit)) (now (edges .exit)) (now (rows .exit)) (now (leaves .exit)) (now (visited .exit)) (now (order .exit)) (now (wait .exit)) (now (classes .exit))) ⌝ }
 {
@@ -277,7 +278,7 @@ pub fn prove(
     wait: &mut [u16; 512],
     classes: &mut [u16; 512],
 ) -> Progress
-    ensures { λ r. ⌜ ((F : Flags) (k : ℕ) (s : State) → Flagged F logic skip → Fit F k s → Watch F s
+    ensures { λ r. ⌜ ((F : Flags) (k : ℕ) (s : State) → Flagged F logic skip → Fit F k s → Watch F s → AllRooted s
         → Kept s begun (now (formulas .entry)) (now (tree .entry)) (now (edges .entry)) (now (rows .entry)) (now (leaves .entry)) (now (visited .entry)) (now (order .entry)) (now (wait .entry)) (now (classes .entry))
         → Kept (run 513 F s) r (now (formulas .exit)) (now (tree .exit)) (now (edges .exit)) (now (rows .exit)) (now (leaves .exit)) (now (visited .exit)) (now (order .exit)) (now (wait .exit)) (now (classes .exit))) ⌝ }
 {

@@ -24,6 +24,7 @@ use Rattle.definition.proofs.Bounds.{bounded-formulas, bounded-steps}
 use Rattle.definition.proofs.Accepted.{Accepted, accepted, length-decode}
 use Rattle.definition.proofs.Calls.{final-bounded}
 use Rattle.definition.proofs.Fresh.{Watch, watch-start}
+use Rattle.definition.proofs.Spawned.{AllRooted, rooted-start}
 use Rattle.definition.proofs.Ready.{Fit, fit-start}
 use Rattle.definition.proofs.Sound.{demand-3}
 use Rattle.graph.specs.declared.NormalModalLogic.{NormalModalLogic}
@@ -146,12 +147,12 @@ module _ (branch : List ℕ) (flags : ℕ) (lent : Trays) where
     pub runs : {r : Answer} {left : Trays} {logic : NormalModalLogic} {skip : Bool} {p q : Progress} {fa ta ea ra la va oa wa ca fb tb eb rb lb vb ob wb cb : List ℕ} → refused branch flags (lengthsOf lent) ≡ none →
         logic ≡ logicOf F → skip ≡ F .skip →
         (length branch / 6 ≤ 256 → empty (marks rs) ≡ false → length (marks rs) ≤ 64 → Kept (start F rs) p fa ta ea ra la va oa wa ca) →
-        (Flagged F logic skip → Fit F (length rs) (start F rs) → Watch F (start F rs) → Kept (start F rs) p fa ta ea ra la va oa wa ca → Kept (run 513 F (start F rs)) q fb tb eb rb lb vb ob wb cb) →
+        (Flagged F logic skip → Fit F (length rs) (start F rs) → Watch F (start F rs) → AllRooted (start F rs) → Kept (start F rs) p fa ta ea ra la va oa wa ca → Kept (run 513 F (start F rs)) q fb tb eb rb lb vb ob wb cb) →
         (Kept (final F rs) q fb tb eb rb lb vb ob wb cb → Ends (final F rs) → Sized lent → (r ≡ answerOf (outcomeOfRun (final F rs))) × (left ≡ traysAfter (outcomeOfRun (final F rs)) lent)) →
         Contract branch flags lent r left
     unfolding final
     runs e l k begin go finish =
-        let ran = go (record { logic = l; skip = k }) run-fit (watch-start F rs (a .marked)) (begin (omega (arith, length-decode branch, a .few)) (a .marked) (a .fewMarked)) in
+        let ran = go (record { logic = l; skip = k }) run-fit (watch-start F rs (a .marked)) (rooted-start F rs) (begin (omega (arith, length-decode branch, a .few)) (a .marked) (a .fewMarked)) in
         let done = finish ran run-ends (record { nodes = a .nodes; formulas = a .formulas; edges = a .edges }) in
         contract-run _ _ e (done .0) (done .1)
 

@@ -18,16 +18,16 @@ use Rattle.definition.proofs.Below.{openBelow, takers-out, takers-closed, taker
 use Rattle.tree.specs.Lay.{placeCode}
 
 -- ---- from the leaf up
-up-zero : (t : List Node) (x : ℕ) → upward 0 t x ≡ []
+pub up-zero : (t : List Node) (x : ℕ) → upward 0 t x ≡ []
 unfolding upward
 up-zero t x = refl
 
-up-nobody : (t : List Node) (d x : ℕ) → isNobody x ≡ true → upward d t x ≡ []
+pub up-nobody : (t : List Node) (d x : ℕ) → isNobody x ≡ true → upward d t x ≡ []
 unfolding upward
 up-nobody t zero x e = refl
 up-nobody t (suc d) x e = rw e refl
 
-up-node : (t : List Node) (d x : ℕ) → isNobody x ≡ false → upward (suc d) t x ≡ x ∷ upward d t (nodeAt t x .parent)
+pub up-node : (t : List Node) (d x : ℕ) → isNobody x ≡ false → upward (suc d) t x ≡ x ∷ upward d t (nodeAt t x .parent)
 unfolding upward
 up-node t d x e = rw e refl
 
@@ -84,7 +84,7 @@ unfolding isLeaf
 leaf-as c l m r el em er w = sym (w ∙ rw (el, em, er) refl)
 
 -- nobody has no child
-nobody-leaf : (t : List Node) (x : ℕ) → length t ≤ 512 → isNobody x ≡ true → isLeaf (nodeAt t x .children) ≡ true
+pub nobody-leaf : (t : List Node) (x : ℕ) → length t ≤ 512 → isNobody x ≡ true → isLeaf (nodeAt t x .children) ≡ true
 unfolding isLeaf
 nobody-leaf t x h e =
     let q = eqb-true x nobody e in
@@ -162,7 +162,7 @@ module _ (t : List Node) (d x : ℕ) (k : List ℕ) {n : ℕ} {a : List ℕ} {b 
 
 -- ---- the leaves that take what goes below the target
 -- no place is no place in the tree
-out-code : (p : Place) → placeCode p ≡ 65535 → placed p ≡ false
+pub out-code : (p : Place) → placeCode p ≡ 65535 → placed p ≡ false
 unfolding placed
 out-code Root e = absurd (omega (arith, e))
 out-code Left e = absurd (omega (arith, e))
@@ -170,7 +170,7 @@ out-code Middle e = absurd (omega (arith, e))
 out-code Right e = absurd (omega (arith, e))
 out-code Unplaced e = refl
 
-in-code : (p : Place) → (placeCode p ≡ 65535 → ⊥) → placed p ≡ true
+pub in-code : (p : Place) → (placeCode p ≡ 65535 → ⊥) → placed p ≡ true
 unfolding placed
 in-code Root e = refl
 in-code Left e = refl

@@ -1,40 +1,45 @@
 use borrow.Author.Needs.{needs}
-use Prim.Native.Nat.{_≤_, _-_}
+use Prim.Native.Nat.{ℕ, _≤_, _<_, _-_}
 use mathlib.Core.Path.{_≡_}
 use mathlib.Core.List.{List, [], _++_}
+use mathlib.Core.Option.{some}
 use native.Mathlib.Omega.{arith}
 use lib.ListN.{length}
-use Rattle.arrays.specs.Listed.{Listed}
+use Rattle.definition.specs.Lists.{Each}
 use Rattle.definition.specs.Graph.{Graph}
 use Rattle.definition.specs.Tree.{Node, leaves}
 use Rattle.definition.specs.Modality.{Necessity, Fork, reapplyNecessityAfterPossibility}
+use Rattle.definition.proofs.Treed.{Treed}
+use Rattle.definition.proofs.Spawned.{Spawned}
 use Rattle.graph.specs.Drawn.{Drawn}
 use Rattle.tree.specs.Lay.{Held}
 use Rattle.necessities.specs.Stack.{Stack}
 use Rattle.subtree.specs.Rows.{Row}
+use Rattle.modality.specs.Seen.{Seen}
 use Rattle.logic.specs.Gave.{Listing}
 use Rattle.necessities.proofs.Stacks.{stack-count}
 use Rattle.logic.proofs.Listings.{listing-self}
-use Rattle.logic.proofs.Again.{Again, blank, again-start, again-full, again-next, again-end, turned-after}
+use Rattle.logic.proofs.Again.{Again, blank, after, mapped-each, again-start, again-full, again-next, again-end, turned-after}
 use Rattle.logic.proofs.reapply_necessity_after_possibility.Statement.{statement}
 use Rattle.logic.proofs.reapply_necessity_after_possibility.Tie as tie
 
 abbrev Inv-loop : tie.InvT-loop
-Inv-loop tree₀ base edges worlds rows leafs visited₀ order c node world all m items₀ here₀ i₀ tree visited items here i =
+Inv-loop tree₀ base edges worlds rows visited₀ order c node seen items₀ here₀ i₀ tree visited items here i =
     (i ≤ c) ×
-    ((t more : List Node) (g : Graph) (ns : List Necessity) (rs : List Row) (fk : Fork) → Stack ns c order rows leafs visited₀ → fk ≡ record { node = node .0; world = world .0 } →
-    Drawn g worlds edges → length t ≡ base → Listed (leaves t) m all → m ≤ 512 → Held (t ++ more) (here₀ .nodes) tree₀ → (here₀ .nodes ≤ 512 → Listing rs [] (here₀ .items) (here₀ .nodes) items₀) →
-    Again t g fk ns ((t ++ more) ++ reapplyNecessityAfterPossibility t g fk (length (t ++ more)) ns .nodes) rs (reapplyNecessityAfterPossibility t g fk (length (t ++ more)) ns .subtrees) c i here tree items order rows leafs visited)
+    ((t more : List Node) (g : Graph) (ns : List Necessity) (rs : List Row) (leafBits : List ℕ) (fk : Fork) → Stack ns c order rows leafBits visited₀ → fk .node ≡ node .0 → Drawn g worlds edges → length t ≡ base →
+    Treed t → Each (Spawned t) ns → (0 < c → Each (Seen t (some fk) seen) (leaves t)) → Held (t ++ more) (here₀ .nodes) tree₀ → (here₀ .nodes ≤ 512 → Listing rs [] (here₀ .items) (here₀ .nodes) items₀) →
+    Again t g fk ns ((t ++ more) ++ reapplyNecessityAfterPossibility t g fk (length (t ++ more)) ns .nodes) rs (reapplyNecessityAfterPossibility t g fk (length (t ++ more)) ns .subtrees) c i here tree items order rows leafBits visited)
 
 abbrev μ-loop : tie.MeasureT-loop
-μ-loop tree₀ base edges worlds rows leafs visited₀ order c node world all m items₀ here₀ i₀ tree visited items here i = c - i
+μ-loop tree₀ base edges worlds rows visited₀ order c node seen items₀ here₀ i₀ tree visited items here i =
+    c - i
 
 loop-holds : tie.Need-loop-holds Inv-loop μ-loop
-loop-holds c = (search needs, λ t more g ns rs fk s fe d b l m h list. again-start t g fk more ns rs _ s h list)
+loop-holds c = (search needs, λ t more g ns rs leafBits fk s fe d b tree at seen h list. again-start t g fk more ns rs _ s h list)
 
 returns : tie.Need-returns Inv-loop μ-loop
-returns c = λ t more g ns rs fk s fe d b l m h list.
-    let z = c .before .before .before .loop .inv .1 t more g ns rs fk s fe d b l m h list in
+returns c = λ t more g ns rs leafBits fk s fe d b tree at seen h list.
+    let z = c .before .before .before .loop .inv .1 t more g ns rs leafBits fk s fe d b tree at seen h list in
     (record { nodes = again-full t g fk z (c .if1 .taken); rows = λ fits. absurd (omega (arith, fits, c .if1 .taken)) }, λ fits. absurd (omega (arith, fits, c .if1 .taken)))
 
 row-at-requires : tie.Need-row-at-requires Inv-loop μ-loop
@@ -52,25 +57,39 @@ loop-less c = search needs
 loop-again : tie.Need-loop-again Inv-loop μ-loop
 loop-again c = (
   search needs,
-  λ t more g ns rs fk s fe d b l m h list.
-      let z = c .before .before .before .before .before .before .before .before .before .loop .inv .1 t more g ns rs fk s fe d b l m h list in
+  λ t more g ns rs leafBits fk s fe d b tree at seen h list.
+      let z = c .before .before .before .before .before .before .before .before .before .loop .inv .1 t more g ns rs leafBits fk s fe d b tree at seen h list in
+      let i = c .before .before .before .before .before .before .before .before .before .loop .i in
       let small : c .before .before .before .before .before .before .before .before .before .loop .here .nodes ≤ 512 = omega (arith, c .before .before .before .before .before .before .if1 .left) in
       let low = c .before .before .before .before .before .before .before .before .loop-test .taken in
+      let inside : i < length ns = omega (arith, low, stack-count s) in
       let st = z .stack small in
       let k = c .before .before .before .before .row-at .ensures _ _ _ _ st low in
-      let r = c .reapply-if-on-path .ensures t (z .more) g _ blank (z .rows small .all) _ (c .before .before .before .before .before .before .before .before .before .loop .i) _ fk st low k fe d b l m (z .held) (λ _. listing-self (z .rows small)) in
-      again-next t g fk z blank (omega (arith, low, stack-count s)) small (r .0) (r .1),
+      let r = c .reapply-if-on-path .ensures t (z .more) g _ blank (z .rows small .all) _ i _ leafBits fk st low k fe d b tree (mapped-each (Spawned t) (after t g fk) i ns blank at inside) (seen (omega (arith, low))) (z .held) (λ _. listing-self (z .rows small)) in
+      again-next t g fk z blank inside small (r .0) (r .1),
 )
 
 turn-requires : tie.Need-turn-requires Inv-loop μ-loop
 turn-requires c κs = search needs
 
 returns-2 : tie.Need-returns-2 Inv-loop μ-loop
-returns-2 c = λ t more g ns rs fk s fe d b l m h list.
-    let z = c .before .before .before .loop .inv .1 t more g ns rs fk s fe d b l m h list in
+returns-2 c = λ t more g ns rs leafBits fk s fe d b tree at seen h list.
+    let z = c .before .before .before .loop .inv .1 t more g ns rs leafBits fk s fe d b tree at seen h list in
     let e = again-end t g fk z (omega (arith, c .before .before .loop-test .left)) (stack-count s) (c .before .before .before .loop .inv .0) in
     (record { nodes = e .0; rows = e .1 }, λ fits. turned-after t g fk ns (c .turn .ensures _ _ _ _ (e .2 fits)))
 
 pub reapply-necessity-after-possibility-spec : {M : Type 1} → statement M
 reapply-necessity-after-possibility-spec =
-    tie.close (tie.spec Inv-loop μ-loop loop-holds returns row-at-requires reapply-if-on-path-requires add-i loop-less loop-again turn-requires returns-2)
+    tie.close
+    (tie.spec
+    Inv-loop
+    μ-loop
+    loop-holds
+    returns
+    row-at-requires
+    reapply-if-on-path-requires
+    add-i
+    loop-less
+    loop-again
+    turn-requires
+    returns-2)

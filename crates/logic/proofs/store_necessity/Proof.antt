@@ -20,12 +20,13 @@ store-requires : tie.Need-store-requires
 store-requires c κs = search needs
 
 returns : tie.Need-returns
-returns c = λ s q ea wa b l small.
+returns c = λ s q ea wa b.
     let t = s .nodes in
+    let f = c .before .before .before .before .before .before .before .before .before .args .f .0 in
     let z = stands t [] (b .count) (held-as (t ++ []) (sym (append-nil t)) (before-held b)) (omega (arith, b .fits, b .count)) in
-    let th = c .before .before .before .before .before .before .before .leaves-through .ensures t [] z l small listed-none in
-    let tf = through-fits s _ (c .before .before .before .before .before .before .before .before .before .args .f .0) b th in
-    fresh-as s _ (c .before .before .before .before .before .before .before .before .before .args .f .0) (c .before .before .before .before .before .before .world-of .ensures t (b .fits) (b .laid)) (c .store .ensures (s .necessities) _ (b .necessities) (b .room) th (tf .0) (tf .1))
+    let th = c .before .before .before .before .before .before .before .leaves-through .ensures t (b .treed) z listed-none in
+    let tf = through-fits s _ f b th in
+    fresh-as s _ f (c .before .before .before .before .before .before .world-of .ensures t (b .fits) (b .laid)) (c .store .ensures (s .necessities) _ (b .necessities) (b .room) th (tf .0) (tf .1))
 
 pub store-necessity-spec : {M : Type 1} → statement M
 store-necessity-spec =

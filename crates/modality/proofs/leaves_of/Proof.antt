@@ -1,30 +1,28 @@
 use borrow.Author.Needs.{needs}
 use Prim.Native.Nat.{ℕ, _≤_, _-_}
-use mathlib.Core.Path.{ap}
 use mathlib.Core.List.{List, _++_}
 use native.Mathlib.Omega.{arith}
 use lib.ListN.{take}
 use Rattle.arrays.specs.Listed.{Listed}
 use Rattle.arrays.proofs.Listed.{listed-count}
 use Rattle.definition.specs.Lists.{filter}
-use Rattle.definition.specs.Tree.{Node, leaves}
+use Rattle.definition.specs.Tree.{Node}
 use Rattle.definition.specs.Modality.{Necessity}
-use Rattle.tree.proofs.Paths.{listed-as}
 use Rattle.necessities.specs.Stored.{InRow}
 use Rattle.modality.specs.Stands.{Stands}
 use Rattle.modality.proofs.Fill.{fill-start, fill-next, fill-end}
-use Rattle.modality.proofs.Give.{through, leaves-by}
+use Rattle.modality.proofs.Give.{through}
 use Rattle.modality.proofs.leaves_of.Statement.{statement}
 use Rattle.modality.proofs.leaves_of.Tie as tie
 
 abbrev Inv-loop : tie.InvT-loop
-Inv-loop tree base leafs k all m out₀ c n₀ j₀ out n j = (j ≤ m) × ((t : List Node) (s : Necessity) (l : List ℕ) → Stands t base tree → InRow k (s .leaves) leafs → Listed (leaves t) m all → m ≤ 512 → Listed l c out₀ → Listed (l ++ filter (through t s) (take j (leaves t))) n out)
+Inv-loop tree base leafs k all m out₀ c n₀ j₀ out n j = (j ≤ m) × ((t : List Node) (s : Necessity) (ls l : List ℕ) → Stands t base tree → InRow k (s .leaves) leafs → Listed ls m all → m ≤ 512 → Listed l c out₀ → Listed (l ++ filter (through t s) (take j ls)) n out)
 
 abbrev μ-loop : tie.MeasureT-loop
 μ-loop tree base leafs k all m out₀ c n₀ j₀ out n j = m - j
 
 loop-holds : tie.Need-loop-holds Inv-loop μ-loop
-loop-holds c = (search needs, λ t s l d r a h p. fill-start (through t s) (leaves t) l p)
+loop-holds c = (search needs, λ t s ls l d r a h p. fill-start (through t s) ls l p)
 
 nth-requires : tie.Need-nth-requires Inv-loop μ-loop
 nth-requires c κs = search needs
@@ -42,10 +40,10 @@ loop-less : tie.Need-loop-less Inv-loop μ-loop
 loop-less c = search needs
 
 loop-again : tie.Need-loop-again Inv-loop μ-loop
-loop-again c = (search needs, λ t s l d r a h p. fill-next (through t s) (leaves t) l _ _ (omega (arith, listed-count a h, c .before .before .before .before .loop-test .taken)) (c .before .before .before .nth .ensures (leaves t) _ a h (c .before .before .before .before .loop-test .taken)) (c .before .before .path-runs-through .ensures t s d r) (c .before .before .before .before .before .loop .inv .1 t s l d r a h p) (c .push-if .ensures))
+loop-again c = (search needs, λ t s ls l d r a h p. fill-next (through t s) ls l _ _ (omega (arith, listed-count a h, c .before .before .before .before .loop-test .taken)) (c .before .before .before .nth .ensures ls _ a h (c .before .before .before .before .loop-test .taken)) (c .before .before .path-runs-through .ensures t s d r) (c .before .before .before .before .before .loop .inv .1 t s ls l d r a h p) (c .push-if .ensures))
 
 returns : tie.Need-returns Inv-loop μ-loop
-returns c = λ t s l d r a h p. listed-as _ (ap (λ (x : List ℕ). l ++ x) (leaves-by t s)) (fill-end (through t s) (leaves t) l (c .before .loop .j) (omega (arith, listed-count a h, c .loop-test .left)) (c .before .loop .inv .1 t s l d r a h p))
+returns c = λ t s ls l d r a h p. fill-end (through t s) ls l (c .before .loop .j) (omega (arith, listed-count a h, c .loop-test .left)) (c .before .loop .inv .1 t s ls l d r a h p)
 
 pub leaves-of-spec : {M : Type 1} → statement M
 leaves-of-spec =

@@ -36,14 +36,14 @@ check-requires : tie.Need-check-requires
 check-requires c κs = search needs
 
 returns : tie.Need-returns
-returns c = λ F k s fl fit watch st kp.
+returns c = λ F k s fl fit watch rooted st kp.
     let r = ready F k s fit st in
     let l = kept-laid kp (r .nodes) in
     let got = c .before .before .pop .ensures (s .formulas) (s .nodes) (s .waiting) (l .waiting) (l .classes) (listed-fits (l .waiting) (waiting-fits F k s fit (r .nodes))) in
     absurd (never-none s st (sym (got .0) ∙ c .enum-told .given .1))
 
 returns-2 : tie.Need-returns-2
-returns-2 c = λ F k s fl fit watch st kp.
+returns-2 c = λ F k s fl fit watch rooted st kp.
     let r = ready F k s fit st in
     let l = kept-laid kp (r .nodes) in
     let got = c .before .before .before .before .before .before .before .before .before .before .before .before .before .before .before .before .before .before .before .before .before .before .before .before .pop .ensures (s .formulas) (s .nodes) (s .waiting) (l .waiting) (l .classes) (listed-fits (l .waiting) (waiting-fits F k s fit (r .nodes))) in
@@ -51,7 +51,7 @@ returns-2 c = λ F k s fl fit watch st kp.
     let wait = took (s .waiting) _ _ (t .0) (t .1) (t .2) (got .1) in
     let classes = took-classes (D.getNodePriority (s .formulas) (s .nodes)) (s .waiting) _ _ (t .0) (t .1) (t .2) (got .2) in
     let x = c .before .before .before .before .before .before .before .before .before .before .before .before .before .before .before .before .before .before .formula-of .ensures (s .nodes) (r .nodes) (l .nodes) in
-    stepped F s _ (t .0) k fit watch st (t .1) l (expands-as x (c .before .before .before .before .before .before .before .before .before .before .before .before .before .before .before .before .before .expand .ensures (s .formulas) (l .formulas))) (c .before .before .before .before .before .before .before .before .before .apply .ensures F s _ (t .0) (fl .logic) (laid-before r l wait)) (c .before .before .before .next-step .ensures)
+    stepped F s _ (t .0) k fit watch st (t .1) l (expands-as x (c .before .before .before .before .before .before .before .before .before .before .before .before .before .before .before .before .before .expand .ensures (s .formulas) (l .formulas))) (c .before .before .before .before .before .before .before .before .before .apply .ensures F s _ (t .0) (fl .logic) (laid-before r rooted l wait)) (c .before .before .before .next-step .ensures)
     (t .2) classes (c .before .before .before .before .classify .ensures) (λ z. c .check .ensures F z (fl .skip))
 
 pub step-spec : {M : Type 1} → statement M

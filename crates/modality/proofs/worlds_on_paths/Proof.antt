@@ -1,0 +1,59 @@
+use borrow.Author.Needs.{needs}
+use Prim.Native.Nat.{ℕ, _≤_, _<_, _-_}
+use mathlib.Core.Path.{_≡_}
+use mathlib.Core.List.{List}
+use lib.ListN.{length, take}
+use Rattle.arrays.specs.Listed.{Listed}
+use Rattle.definition.specs.Lists.{Each}
+use Rattle.definition.specs.Tree.{Node}
+use Rattle.modality.specs.Stands.{Stands}
+use Rattle.modality.specs.Forking.{forkOf}
+use Rattle.modality.specs.Seen.{Seen}
+use Rattle.modality.proofs.Worlds.{seen-next, seen-end}
+use Rattle.modality.proofs.worlds_on_paths.Statement.{statement}
+use Rattle.modality.proofs.worlds_on_paths.Tie as tie
+
+abbrev Inv-loop : tie.InvT-loop
+Inv-loop tree base forking on m seen₀ j₀ seen j = (j ≤ m) × ((t : List Node) (ls : List ℕ) → Stands t base tree → Listed ls m on → m ≤ 512 → Each (λ l. l < 512) ls → length seen₀ ≡ 512 → (length seen ≡ 512) × Each (Seen t (forkOf forking) seen) (take j ls))
+
+abbrev μ-loop : tie.MeasureT-loop
+μ-loop tree base forking on m seen₀ j₀ seen j = m - j
+
+loop-holds : tie.Need-loop-holds Inv-loop μ-loop
+loop-holds c = (search needs, λ t ls d l small low long. (long, tt))
+
+nth-requires : tie.Need-nth-requires Inv-loop μ-loop
+nth-requires c κs = search needs
+
+worlds-on-requires : tie.Need-worlds-on-requires Inv-loop μ-loop
+worlds-on-requires c κs = search needs
+
+put-word-requires : tie.Need-put-word-requires Inv-loop μ-loop
+put-word-requires c κs = search needs
+
+add-j : tie.Need-add-j Inv-loop μ-loop
+add-j c = search needs
+
+loop-less : tie.Need-loop-less Inv-loop μ-loop
+loop-less c = search needs
+
+loop-again : tie.Need-loop-again Inv-loop μ-loop
+loop-again c = (search needs, λ t ls d l small low long. seen-next t (forkOf (c .before .before .before .before .before .before .args .forking)) ls l small _ _ (c .before .before .before .before .before .loop .j) _ _ low (c .before .before .before .before .loop-test .taken) (c .before .before .before .nth .ensures ls _ l small (c .before .before .before .before .loop-test .taken)) (c .before .before .worlds-on .ensures t d) (c .put-word .ensures) (c .before .before .before .before .before .loop .inv .1 t ls d l small low long))
+
+returns : tie.Need-returns Inv-loop μ-loop
+returns c = λ t ls d l small low long. seen-end t (forkOf (c .before .before .args .forking)) ls l small _ _ (c .loop-test .left) (c .before .loop .inv .1 t ls d l small low long .1)
+
+pub worlds-on-paths-spec : {M : Type 1} → statement M
+worlds-on-paths-spec =
+    tie.close
+    (tie.spec
+    Inv-loop
+    μ-loop
+    loop-holds
+    nth-requires
+    worlds-on-requires
+    put-word-requires
+    add-j
+    loop-less
+    loop-again
+    returns)
