@@ -67,7 +67,7 @@ map-snoc f zero s = let z : s ≡ s + 0 = omega arith in ap (λ (j : ℕ). f j �
 map-snoc f (suc n) s = let z : suc s + n ≡ s + suc n = omega arith in ap (λ (l : List ℕ). f s ∷ l) (map-snoc f n (suc s) ∙ ap (λ (j : ℕ). map f (upFrom n (suc s)) ++ (f j ∷ [])) z)
 
 module _ (line : List ℕ) (from : ℕ) where
-  length-decoded : (n : ℕ) → length (decoded line from n) ≡ n
+  pub length-decoded : (n : ℕ) → length (decoded line from n) ≡ n
   unfolding decoded
   length-decoded n = length-map (below n) (λ k. hexByte line (from + 2 * k)) ∙ length-up n 0
 

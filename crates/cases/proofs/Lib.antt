@@ -4,3 +4,6 @@ pub mod Hex
 pub mod Fed
 pub mod Formulas
 pub mod Lines
+pub mod Differing
+pub mod Tallied
+pub mod Filed

@@ -13,6 +13,10 @@ use crate::lent::formulas_agree;
 use crate::lent::nodes_agree;
 use prover::Answer;
 use prover::prove;
+ghost use mathlib.Core.Path.{_≡_};
+ghost use Rattle.prover.specs.Contract.{trays};
+ghost use Rattle.prover.specs.Said.{said};
+ghost use Rattle.cases.specs.Compared.{expectedOf, verdictLetter, countsDiffer, digestDiffers, traysDiffer, fullDiffers, verdictDiffers, answerDiffers, callDiffers, differenceOf};
 
 // What differs.
 pub enum Difference {
@@ -36,7 +40,9 @@ struct Expected {
     second: u64,
 }
 
-fn read_line(line: &[u8]) -> Expected {
+fn read_line(line: &[u8]) -> Expected
+    ensures { λ r. ⌜ r ≡ expectedOf (now (line .entry)) ⌝ }
+{
     let at = start_of(line, 6);
     let word = start_of(line, 2);
     if line.len() <= at {
@@ -60,7 +66,9 @@ fn read_line(line: &[u8]) -> Expected {
 }
 
 // The first letter of the verdict.
-fn letter(proved: bool, late: bool) -> u8 {
+fn letter(proved: bool, late: bool) -> u8
+    ensures { λ r. ⌜ r ≡ verdictLetter proved late ⌝ }
+{
     if proved {
         if late {
             return b'b';
@@ -73,7 +81,9 @@ fn letter(proved: bool, late: bool) -> u8 {
     b'o'
 }
 
-fn compare_counts(e: Expected, identifiers: usize, worlds: usize, steps: usize) -> Difference {
+fn compare_counts(e: Expected, identifiers: usize, worlds: usize, steps: usize) -> Difference
+    ensures { λ r. ⌜ r ≡ countsDiffer e identifiers worlds steps ⌝ }
+{
     if e.identifiers != identifiers {
         return Difference::Identifiers;
     }
@@ -86,7 +96,9 @@ fn compare_counts(e: Expected, identifiers: usize, worlds: usize, steps: usize) 
     Difference::Nothing
 }
 
-fn compare_digest(e: Expected, nodes: &[u8], formulas: &[u8], edges: &[u32]) -> Difference {
+fn compare_digest(e: Expected, nodes: &[u8], formulas: &[u8], edges: &[u32]) -> Difference
+    ensures { λ r. ⌜ r ≡ digestDiffers e (trays (now (nodes .entry)) (now (formulas .entry)) (now (edges .entry))) ⌝ }
+{
     let d = of_trays(nodes, formulas, edges, e.identifiers);
     if e.first != d.first {
         return Difference::Digest;
@@ -103,7 +115,9 @@ fn compare_full(
     nodes: &[u8],
     formulas: &[u8],
     edges: &[u32],
-) -> Difference {
+) -> Difference
+    ensures { λ r. ⌜ r ≡ fullDiffers e number (trays (now (nodes .entry)) (now (formulas .entry)) (now (edges .entry))) ⌝ }
+{
     if e.word != b'f' {
         return Difference::Verdict;
     }
@@ -116,13 +130,59 @@ fn compare_full(
     Difference::Trays
 }
 
-// The call with these flags, on trays that are longer than asked and filled with 255.
-fn compare_call(e: Expected, branch: &[u8], flags: u8) -> Difference {
-    let mut nodes = [255u8; 6150];
-    let mut formulas = [255u8; 7686];
-    let mut edges = [4294967295u32; 26];
-    match prove(branch, flags, &mut nodes, &mut formulas, &mut edges) {
-        Answer::Refusal { number, place: _ } => compare_full(e, number, &nodes, &formulas, &edges),
+// The bytes that no digest sees, then the digest.
+fn compare_trays(
+    e: Expected,
+    branch: &[u8],
+    identifiers: usize,
+    count: usize,
+    worlds: usize,
+    nodes: &[u8],
+    formulas: &[u8],
+    edges: &[u32],
+) -> Difference
+    ensures { λ r. ⌜ r ≡ traysDiffer e (now (branch .entry)) identifiers count worlds (trays (now (nodes .entry)) (now (formulas .entry)) (now (edges .entry))) ⌝ }
+{
+    if nodes_agree(nodes, identifiers) {
+        if formulas_agree(formulas, branch, count) {
+            if edges_agree(edges, worlds) {
+                return compare_digest(e, nodes, formulas, edges);
+            }
+        }
+    }
+    Difference::Trays
+}
+
+// The letter of the verdict, then its counts.
+fn compare_verdict(
+    e: Expected,
+    proved: bool,
+    late: bool,
+    identifiers: usize,
+    worlds: usize,
+    steps: usize,
+) -> Difference
+    ensures { λ r. ⌜ r ≡ verdictDiffers e proved late identifiers worlds steps ⌝ }
+{
+    if e.word != letter(proved, late) {
+        return Difference::Verdict;
+    }
+    compare_counts(e, identifiers, worlds, steps)
+}
+
+// The answer, and the trays that the call left.
+fn compare_answer(
+    e: Expected,
+    branch: &[u8],
+    answer: Answer,
+    nodes: &[u8],
+    formulas: &[u8],
+    edges: &[u32],
+) -> Difference
+    ensures { λ r. ⌜ r ≡ answerDiffers e (now (branch .entry)) (said answer) (trays (now (nodes .entry)) (now (formulas .entry)) (now (edges .entry))) ⌝ }
+{
+    match answer {
+        Answer::Refusal { number, place: _ } => compare_full(e, number, nodes, formulas, edges),
         Answer::Verdict {
             proved,
             late,
@@ -131,29 +191,46 @@ fn compare_call(e: Expected, branch: &[u8], flags: u8) -> Difference {
             worlds,
             steps,
         } => {
-            if e.word != letter(proved, late) {
-                return Difference::Verdict;
-            }
-            let counts = compare_counts(e, identifiers as usize, worlds as usize, steps as usize);
-            let Difference::Nothing = counts else {
-                return counts;
+            let said = compare_verdict(
+                e,
+                proved,
+                late,
+                identifiers as usize,
+                worlds as usize,
+                steps as usize,
+            );
+            let Difference::Nothing = said else {
+                return said;
             };
-            if !nodes_agree(&nodes, identifiers as usize) {
-                return Difference::Trays;
-            }
-            if !formulas_agree(&formulas, branch, count as usize) {
-                return Difference::Trays;
-            }
-            if !edges_agree(&edges, worlds as usize) {
-                return Difference::Trays;
-            }
-            compare_digest(e, &nodes, &formulas, &edges)
+            compare_trays(
+                e,
+                branch,
+                identifiers as usize,
+                count as usize,
+                worlds as usize,
+                nodes,
+                formulas,
+                edges,
+            )
         }
     }
 }
 
+// The call with these flags, on trays that are longer than asked and filled with 255.
+fn compare_call(e: Expected, branch: &[u8], flags: u8) -> Difference
+    ensures { λ r. ⌜ r ≡ callDiffers e (now (branch .entry)) flags ⌝ }
+{
+    let mut nodes = [255u8; 6150];
+    let mut formulas = [255u8; 7686];
+    let mut edges = [4294967295u32; 26];
+    let answer = prove(branch, flags, &mut nodes, &mut formulas, &mut edges);
+    compare_answer(e, branch, answer, &nodes, &formulas, &edges)
+}
+
 // The line's branch and flags through the call.
-pub fn compare_line(line: &[u8]) -> Difference {
+pub fn compare_line(line: &[u8]) -> Difference
+    ensures { λ r. ⌜ r ≡ differenceOf (now (line .entry)) ⌝ }
+{
     let flags = number_of(line, 0);
     if 255 < flags {
         return Difference::Form;

@@ -1,6 +1,12 @@
 // A file of vectors, line by line.
 use crate::compare::Difference;
 use crate::compare::compare_line;
+ghost use mathlib.Core.Path.{_≡_};
+ghost use mathlib.Core.List.{[], _∷_};
+ghost use Prim.Native.Nat.{_≤_};
+ghost use lib.ListN.{length};
+ghost use Rattle.cases.specs.Tally.{oneMore, oneFailed, judged, finished, Since};
+ghost use Rattle.cases.specs.File.{FileRead, Takes, Went};
 
 // The line's number in its file, the cases so far and how many of them failed.
 pub struct Tally {
@@ -10,12 +16,16 @@ pub struct Tally {
 }
 
 // One more; a count never gets so large.
-fn next(n: usize) -> usize {
+fn next(n: usize) -> usize
+    ensures { λ r. ⌜ r ≡ oneMore n ⌝ }
+{
     if n < 1000000000 { n + 1 } else { n }
 }
 
 // A failing line: the file's name, the line's number and what differs.
-pub fn report(name: &[u8], tally: Tally, what: &[u8]) -> Tally {
+pub fn report(name: &[u8], tally: Tally, what: &[u8]) -> Tally
+    ensures { λ r. ⌜ r ≡ oneFailed tally ⌝ }
+{
     io::write_all(libc::STDOUT_FILENO, name);
     io::write_all(libc::STDOUT_FILENO, b":");
     io::print_decimal(libc::STDOUT_FILENO, tally.line as u64);
@@ -29,7 +39,9 @@ pub fn report(name: &[u8], tally: Tally, what: &[u8]) -> Tally {
     }
 }
 
-fn judge(name: &[u8], tally: Tally, difference: Difference) -> Tally {
+fn judge(name: &[u8], tally: Tally, difference: Difference) -> Tally
+    ensures { λ r. ⌜ r ≡ judged difference tally ⌝ }
+{
     match difference {
         Difference::Nothing => tally,
         Difference::Form => report(name, tally, b"form"),
@@ -43,7 +55,9 @@ fn judge(name: &[u8], tally: Tally, difference: Difference) -> Tally {
 }
 
 // A whole line; one that begins with # is a comment.
-fn finish(name: &[u8], line: &[u8], tally: Tally) -> Tally {
+fn finish(name: &[u8], line: &[u8], tally: Tally) -> Tally
+    ensures { λ r. ⌜ r ≡ finished (now (line .entry)) tally ⌝ }
+{
     let at = Tally {
         line: next(tally.line),
         cases: tally.cases,
@@ -70,7 +84,9 @@ struct Progress {
 }
 
 // One byte more. What has no room is dropped, and the line is then not of the form.
-fn feed(name: &[u8], line: &mut [u8], p: Progress, b: u8) -> Progress {
+fn feed(name: &[u8], line: &mut [u8], p: Progress, b: u8) -> Progress
+    ensures { λ r. ⌜ (p .len ≤ length (now (line .entry)) → Takes (now (line .entry)) p (b ∷ []) (now (line .exit)) r) ⌝ }
+{
     let len = p.len;
     let tally = p.tally;
     if line.len() < len {
@@ -93,7 +109,9 @@ fn feed(name: &[u8], line: &mut [u8], p: Progress, b: u8) -> Progress {
     p
 }
 
-fn feed_all(name: &[u8], line: &mut [u8], p: Progress, part: &[u8]) -> Progress {
+fn feed_all(name: &[u8], line: &mut [u8], p: Progress, part: &[u8]) -> Progress
+    ensures { λ r. ⌜ (p .len ≤ length (now (line .entry)) → Takes (now (line .entry)) p (now (part .entry)) (now (line .exit)) r) ⌝ }
+{
     let mut q = p;
     let mut i: usize = 0;
     while i < part.len() {
@@ -110,7 +128,9 @@ enum More {
     Read { progress: Progress },
 }
 
-fn read_more(fd: i32, name: &[u8], line: &mut [u8], p: Progress) -> More {
+fn read_more(fd: i32, name: &[u8], line: &mut [u8], p: Progress) -> More
+    ensures { λ r. ⌜ (p .len ≤ length (now (line .entry)) → Went (now (line .entry)) p (now (line .exit)) r) ⌝ }
+{
     let mut part = io::buffer();
     let got = libc::read(fd, &mut part);
     if got < 0 {
@@ -126,7 +146,10 @@ fn read_more(fd: i32, name: &[u8], line: &mut [u8], p: Progress) -> More {
 }
 
 // The file to its end, in at most 2^40 reads.
-pub fn read_file(fd: i32, name: &[u8], tally: Tally) -> Tally {
+pub fn read_file(fd: i32, name: &[u8], tally: Tally) -> Tally
+    ensures { λ r. ⌜ FileRead tally r ⌝ }
+    ensures { λ r. ⌜ Since 1 tally r ⌝ }
+{
     let mut line = [0u8; 4096];
     let mut p = Progress {
         len: 0,

@@ -58,7 +58,7 @@ any-append : {A : Type 0} (p : A → Bool) (xs ys : List A) → any p ys ≡ tru
 any-append p [] ys h = h
 any-append p (x ∷ xs) ys h = or-true (p x) (any-append p xs ys h)
 
-pub elem-not : (x : ℕ) (xs : List ℕ) → Each (λ y. y ≢ x) xs → elem x xs ≡ false
+elem-not : (x : ℕ) (xs : List ℕ) → Each (λ y. y ≢ x) xs → elem x xs ≡ false
 elem-not x xs h = not-true-false (elem x xs) (λ e. elem-each (λ y. y ≢ x) x xs e h refl)
 
 elem-first : (x : ℕ) (xs : List ℕ) → elem x (x ∷ xs) ≡ true
@@ -171,7 +171,7 @@ module _ (t : List Node) (r : Treed t) where
   elem-self x i = ap (elem x) (path-below t r x i) ∙ elem-first x (path t (nodeAt t x .parent))
 
   -- a path that holds a node holds its parent
-  pub elem-parent : (c : ℕ) → In (spots t) (nodeAt t c .parent) → (l : ℕ) → In (spots t) l → elem c (path t l) ≡ true → elem (nodeAt t c .parent) (path t l) ≡ true
+  elem-parent : (c : ℕ) → In (spots t) (nodeAt t c .parent) → (l : ℕ) → In (spots t) l → elem c (path t l) ≡ true → elem (nodeAt t c .parent) (path t l) ≡ true
   elem-parent c j =
       climbing t r (λ l. elem c (path t l) ≡ true → elem (nodeAt t c .parent) (path t l) ≡ true)
       (λ e. absurd (inner c j (elem-each (λ y. y ≡ 0) c (path t 0) e (rw (path-root t r) (refl, tt)))))

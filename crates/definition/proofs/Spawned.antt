@@ -1,7 +1,7 @@
 -- A stored necessity's paths are those through its spawner: its path leaves were all the leaves below it, and what grew since stands below them.
 use mathlib.Core.Path.{_≡_, refl, sym, ap, _∙_, subst, fun-ext}
 use mathlib.Core.Bool.{Bool, true, false, cond, _||_}
-use mathlib.Core.List.{List, [], _∷_, _++_, map, reverse, append-nil}
+use mathlib.Core.List.{List, [], _∷_, _++_, map}
 use mathlib.Core.Option.{Option, none, some}
 use mathlib.Core.Logic.{_⊎_, inl, inr, ⊎-elim, _≢_}
 use Prim.Native.Nat.{ℕ, zero, suc, _<_, _≤_}
@@ -19,16 +19,16 @@ use Rattle.definition.specs.Contradiction.{Pair, markAll, pairs}
 use Rattle.definition.specs.Modality.{Necessity, Fork, unvisited, runsThrough, leavesOf, isReapplied, visiting, necessitiesAfterPossibility}
 use Rattle.definition.specs.Queue.{Popped, pop}
 use Rattle.definition.specs.Run.{State, applyHere, applyPossibility, applyNecessity, applyRule, apply, checkedForContradictions, checkForContradictions, appended, stepBy, step, stops, begun, start}
-use Rattle.definition.proofs.Lists.{true-false, either, alike, or-cases, or-true, not-true-false, cond-both, Some, some-each, some-pick, any-some, elem-each, each-map, each-both, each-any, each-of-map, each-reverse, each-filter, filter-keeps, Full}
+use Rattle.definition.proofs.Lists.{true-false, either, alike, or-cases, or-true, not-true-false, cond-both, Some, some-each, some-pick, any-some, elem-each, each-map, each-any, each-of-map, each-reverse, each-filter, filter-keeps, Full}
 use Rattle.definition.proofs.Nodes.{mark-keeps, length-marks}
 use Rattle.definition.proofs.Count.{checked-both, Out as Gone, pop-out}
 use Rattle.definition.proofs.Treed.{Spot, spot, spots, placed, childAt, alive, In, Out, Treed, Bare, in-out, leaves-bare, leaves-within}
 use Rattle.definition.proofs.Linking.{bare-room}
 use Rattle.definition.proofs.Ready.{Fit, ready}
 use Rattle.definition.proofs.Partners.{climbing, path-below, path-root, marks-same, Stem, Grown, grown-path, appended-grown}
-use Rattle.definition.proofs.Takers.{leaf-by, OpenLeaf, Hung, NewPath, new-path, bare-before}
-use Rattle.definition.proofs.Below.{through, through-is, through-out, path-there, elem-self, elem-parent, elem-not}
-use Rattle.definition.proofs.Marked.{leaf-listed, appended-hung, old-in}
+use Rattle.definition.proofs.Takers.{leaf-by, Hung, NewPath, new-path, bare-before}
+use Rattle.definition.proofs.Below.{through, through-is, through-out, path-there, elem-self}
+use Rattle.definition.proofs.Marked.{leaf-listed, appended-hung}
 
 -- of each leaf, the path runs through a stored leaf just if it goes through the spawner
 abbrev pub Spawned : List Node → Necessity → Type 0

@@ -16,7 +16,7 @@ use Rattle.definition.proofs.Spawned.{Spawned, spawned-leaves}
 use Rattle.definition.proofs.Issued.{length-from}
 use Rattle.definition.proofs.Given.{unvisited-each}
 use Rattle.arrays.specs.Listed.{Listed}
-use Rattle.arrays.proofs.Listed.{listed-fits, listed-count}
+use Rattle.arrays.proofs.Listed.{listed-fits}
 use Rattle.graph.specs.Drawn.{Drawn}
 use Rattle.tree.specs.Lay.{Held}
 use Rattle.tree.proofs.Paths.{listed-as}

@@ -2,7 +2,7 @@
 use Prim.Native.Nat.{ℕ, _+_, _-_, _%_, _<_, _≤_, suc}
 use mathlib.Core.Path.{_≡_, refl, sym, ap, _∙_, subst}
 use mathlib.Core.Bool.{Bool, true, false, cond, _&&_, _||_}
-use mathlib.Core.List.{List, [], _∷_, _++_}
+use mathlib.Core.List.{List, [], _∷_}
 use mathlib.Core.Option.{Option, none, some}
 use mathlib.Core.Logic.{⊎-elim}
 use native.Mathlib.Omega.{arith}
@@ -15,7 +15,7 @@ use Rattle.bits.specs.Bits.{bitOf}
 use Rattle.bits.proofs.Power.{no-bit}
 use Rattle.arrays.specs.Listed.{Listed}
 use Rattle.arrays.proofs.Listed.{listed-count}
-use Rattle.definition.specs.Lists.{Each, any, elem}
+use Rattle.definition.specs.Lists.{Each, any}
 use Rattle.definition.specs.Records.{isNobody}
 use Rattle.definition.specs.Tree.{Node, nodeAt, upward, path}
 use Rattle.definition.specs.Modality.{Fork, forkedOn, occurs}

@@ -17,7 +17,7 @@ ghost use mathlib.Core.Bool.{Bool, cond, _&&_, _||_, not};
 ghost use mathlib.Core.List.{List, [], _∷_, _++_, map};
 ghost use Prim.Native.Nat.{ℕ, _≤_, _<_, _+_};
 ghost use lib.Dec.{eqb};
-ghost use lib.ListN.{length, getD, set};
+ghost use lib.ListN.{length, set};
 ghost use Rattle.arrays.specs.Listed.{Listed};
 ghost use Rattle.bits.specs.Bits.{bitOf};
 ghost use Rattle.definition.specs.Lists.{Each, elem, filter};
@@ -148,18 +148,18 @@ pub fn leaves_of(
     base: usize,
     leafs: &[u32; 8192],
     k: usize,
-    all: &[u16; 512],
+    list: &[u16; 512],
     m: usize,
     out: &mut [u16; 512],
     c: usize,
 ) -> usize
-    ensures { λ r. ⌜ ((t : List Node) (n : Necessity) (ls l : List ℕ) → Stands t base (now (tree .entry)) → InRow k (n .leaves) (now (leafs .entry)) → Listed ls m (now (all .entry)) → m ≤ 512
+    ensures { λ r. ⌜ ((t : List Node) (n : Necessity) (ls l : List ℕ) → Stands t base (now (tree .entry)) → InRow k (n .leaves) (now (leafs .entry)) → Listed ls m (now (list .entry)) → m ≤ 512
         → Listed l c (now (out .entry)) → Listed (l ++ filter (λ leaf. runsThrough n (path t leaf)) ls) r (now (out .exit))) ⌝ }
 {
     let mut n = c;
     let mut j: usize = 0;
     while j < m {
-        let leaf = nth(all, j);
+        let leaf = nth(list, j);
         let runs = path_runs_through(tree, base, leafs, k, ProofTreeNodeID(leaf));
         n = push_if(out, n, leaf, runs);
         j += 1;

@@ -1,5 +1,4 @@
 use mathlib.Core.Path.{sym, _∙_}
-use native.Mathlib.Omega.{arith}
 use Rattle.arrays.proofs.Listed.{listed-fits}
 use Rattle.definition.specs.Queue as D
 use Rattle.definition.proofs.Ready.{ready}

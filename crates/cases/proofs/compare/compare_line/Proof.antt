@@ -1,6 +1,12 @@
 use mathlib.Core.Path.{sym}
+use Prim.Native.Nat.{ℕ}
+use native.Mathlib.Omega.{arith}
+use lib.ListN.{length-replicate}
 use lib.Seq.{length-take-le}
+use borrow.Author.Tests.{lt-ltb}
 use borrow.Author.Needs.{needs}
+use Rattle.cases.specs.Compared.{differenceOf}
+use Rattle.cases.proofs.Differing.{line-differs, too-many}
 use Rattle.cases.proofs.compare.compare_line.Statement.{statement}
 use Rattle.cases.proofs.compare.compare_line.Tie as tie
 
@@ -8,7 +14,8 @@ number-of-requires : tie.Need-number-of-requires
 number-of-requires c κs = search needs
 
 returns : tie.Need-returns
-returns c = search needs
+unfolding differenceOf
+returns c = rw (← c .before .number-of .ensures, lt-ltb _ _ (c .if1 .taken))
 
 start-of-requires : tie.Need-start-of-requires
 start-of-requires c κs = search needs
@@ -26,7 +33,7 @@ slice-aggregate-branch : tie.Need-slice-aggregate-branch
 slice-aggregate-branch c = search needs
 
 returns-2 : tie.Need-returns-2
-returns-2 c = search needs
+returns-2 c = absurd (too-many _ (search needs) (c .before .before .before .decode .ensures .0) (c .if2 .taken))
 
 read-line-requires : tie.Need-read-line-requires
 read-line-requires c κs = search needs
@@ -41,7 +48,7 @@ compare-call-requires : tie.Need-compare-call-requires
 compare-call-requires c κs = search needs
 
 returns-3 : tie.Need-returns-3
-returns-3 c = search needs
+returns-3 c = line-differs _ _ _ _ _ _ _ _ (c .before .before .before .before .before .before .before .before .before .before .before .number-of .ensures) (omega (arith, c .before .before .before .before .before .before .before .before .before .before .if1 .left)) (c .before .before .before .before .before .before .before .before .before .start-of .ensures) (c .before .before .before .before .before .before .before .before .end-of .ensures) (length-replicate {A = ℕ} 2048 0) (c .before .before .before .before .before .before .decode .ensures .0) (c .before .before .before .before .before .before .decode .ensures .1) (c .before .before .read-line .ensures) (c .compare-call .ensures)
 
 pub compare-line-spec : {M : Type 1} → statement M
 compare-line-spec =

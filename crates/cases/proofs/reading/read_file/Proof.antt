@@ -1,17 +1,16 @@
-use mathlib.Core.Path.{_≡_}
-use lib.ListN.{length}
 use borrow.Author.Needs.{needs}
+use Rattle.cases.proofs.Filed.{Begun, begun-start, begun-next, file-whole, file-broken}
 use Rattle.cases.proofs.reading.read_file.Statement.{statement}
 use Rattle.cases.proofs.reading.read_file.Tie as tie
 
 abbrev Inv-loop : tie.InvT-loop
-Inv-loop fd name line₀ p₀ reads₀ t8 t9 line p reads = 4096 ≡ length line
+Inv-loop fd name line₀ p₀ reads₀ t8 t9 line p reads = Begun (p₀ .tally) line p
 
 abbrev μ-loop : tie.MeasureT-loop
 μ-loop fd name line₀ p₀ reads₀ t8 t9 line p reads = reads
 
 loop-holds : tie.Need-loop-holds Inv-loop μ-loop
-loop-holds c = search needs
+loop-holds c = begun-start _ _ (search needs)
 
 slice-aggregate-read-more : tie.Need-slice-aggregate-read-more Inv-loop μ-loop
 slice-aggregate-read-more c = search needs
@@ -29,13 +28,13 @@ report-requires : tie.Need-report-requires Inv-loop μ-loop
 report-requires c κs = search needs
 
 returns : tie.Need-returns Inv-loop μ-loop
-returns c = tt
+returns c = file-broken _ _ _ (c .before .before .before .before .before .before .before .before .loop .inv) (c .report .ensures)
 
 enum-told-2 : tie.Need-enum-told-2 Inv-loop μ-loop
 enum-told-2 c = search needs
 
 returns-2 : tie.Need-returns-2 Inv-loop μ-loop
-returns-2 c = tt
+returns-2 c = file-whole _ _ _ (c .before .before .before .before .before .before .before .loop .inv)
 
 enum-known-progress : tie.Need-enum-known-progress Inv-loop μ-loop
 enum-known-progress c = search needs
@@ -47,7 +46,7 @@ loop-less : tie.Need-loop-less Inv-loop μ-loop
 loop-less c = search needs
 
 loop-again : tie.Need-loop-again Inv-loop μ-loop
-loop-again c = search needs
+loop-again c = begun-next _ _ _ _ _ (search needs) (c .before .before .before .before .before .before .before .loop .inv) (c .before .before .before .before .read-more .ensures) (c .before .progress .given .1)
 
 slice-aggregate-report-2 : tie.Need-slice-aggregate-report-2 Inv-loop μ-loop
 slice-aggregate-report-2 c = search needs
@@ -56,7 +55,7 @@ report-requires-2 : tie.Need-report-requires-2 Inv-loop μ-loop
 report-requires-2 c κs = search needs
 
 returns-3 : tie.Need-returns-3 Inv-loop μ-loop
-returns-3 c = tt
+returns-3 c = file-broken _ _ _ (c .before .before .before .loop .inv) (c .report2 .ensures)
 
 pub read-file-spec : {M : Type 1} → statement M
 read-file-spec =
