@@ -4,102 +4,6 @@ use borrow.Author.Needs.{needs}
 use Rattle.rules.proofs.expand_by.Statement.{statement}
 use Rattle.rules.proofs.expand_by.Tie as tie
 
-enum-told : tie.Need-enum-told
-enum-told c = search needs
-
-plain-requires : tie.Need-plain-requires
-plain-requires c κs = search needs
-
-enum-told-2 : tie.Need-enum-told-2
-enum-told-2 c = search needs
-
-plain-requires-2 : tie.Need-plain-requires-2
-plain-requires-2 c κs = search needs
-
-enum-told-3 : tie.Need-enum-told-3
-enum-told-3 c = search needs
-
-plain-requires-3 : tie.Need-plain-requires-3
-plain-requires-3 c κs = search needs
-
-enum-told-4 : tie.Need-enum-told-4
-enum-told-4 c = search needs
-
-imply-requires : tie.Need-imply-requires
-imply-requires c κs = search needs
-
-enum-told-5 : tie.Need-enum-told-5
-enum-told-5 c = search needs
-
-bi-imply-requires : tie.Need-bi-imply-requires
-bi-imply-requires c κs = search needs
-
-enum-told-6 : tie.Need-enum-told-6
-enum-told-6 c = search needs
-
-strict-imply-requires : tie.Need-strict-imply-requires
-strict-imply-requires c κs = search needs
-
-enum-told-7 : tie.Need-enum-told-7
-enum-told-7 c = search needs
-
-plain-requires-4 : tie.Need-plain-requires-4
-plain-requires-4 c κs = search needs
-
-enum-told-8 : tie.Need-enum-told-8
-enum-told-8 c = search needs
-
-plain-requires-5 : tie.Need-plain-requires-5
-plain-requires-5 c κs = search needs
-
-enum-told-9 : tie.Need-enum-told-9
-enum-told-9 c = search needs
-
-plain-requires-6 : tie.Need-plain-requires-6
-plain-requires-6 c κs = search needs
-
-enum-told-10 : tie.Need-enum-told-10
-enum-told-10 c = search needs
-
-non-and-requires : tie.Need-non-and-requires
-non-and-requires c κs = search needs
-
-enum-told-11 : tie.Need-enum-told-11
-enum-told-11 c = search needs
-
-non-or-requires : tie.Need-non-or-requires
-non-or-requires c κs = search needs
-
-enum-told-12 : tie.Need-enum-told-12
-enum-told-12 c = search needs
-
-non-imply-requires : tie.Need-non-imply-requires
-non-imply-requires c κs = search needs
-
-enum-told-13 : tie.Need-enum-told-13
-enum-told-13 c = search needs
-
-non-bi-imply-requires : tie.Need-non-bi-imply-requires
-non-bi-imply-requires c κs = search needs
-
-enum-told-14 : tie.Need-enum-told-14
-enum-told-14 c = search needs
-
-non-strict-imply-requires : tie.Need-non-strict-imply-requires
-non-strict-imply-requires c κs = search needs
-
-enum-told-15 : tie.Need-enum-told-15
-enum-told-15 c = search needs
-
-non-possible-requires : tie.Need-non-possible-requires
-non-possible-requires c κs = search needs
-
-enum-told-16 : tie.Need-enum-told-16
-enum-told-16 c = search needs
-
-non-necessary-requires : tie.Need-non-necessary-requires
-non-necessary-requires c κs = search needs
-
 returns : tie.Need-returns
 unfolding expansionBy
 returns c = λ rs h. rw (c .before .enum-told .given .1) (c .plain .ensures rs _ _ refl refl h)
@@ -158,38 +62,38 @@ pub expand-by-spec : {M : Type 1} → statement M
 expand-by-spec =
     tie.close
     (tie.spec
-    enum-told
-    plain-requires
-    enum-told-2
-    plain-requires-2
-    enum-told-3
-    plain-requires-3
-    enum-told-4
-    imply-requires
-    enum-told-5
-    bi-imply-requires
-    enum-told-6
-    strict-imply-requires
-    enum-told-7
-    plain-requires-4
-    enum-told-8
-    plain-requires-5
-    enum-told-9
-    plain-requires-6
-    enum-told-10
-    non-and-requires
-    enum-told-11
-    non-or-requires
-    enum-told-12
-    non-imply-requires
-    enum-told-13
-    non-bi-imply-requires
-    enum-told-14
-    non-strict-imply-requires
-    enum-told-15
-    non-possible-requires
-    enum-told-16
-    non-necessary-requires
+    (λ c. search needs)
+    (λ c κs. search needs)
+    (λ c. search needs)
+    (λ c κs. search needs)
+    (λ c. search needs)
+    (λ c κs. search needs)
+    (λ c. search needs)
+    (λ c κs. search needs)
+    (λ c. search needs)
+    (λ c κs. search needs)
+    (λ c. search needs)
+    (λ c κs. search needs)
+    (λ c. search needs)
+    (λ c κs. search needs)
+    (λ c. search needs)
+    (λ c κs. search needs)
+    (λ c. search needs)
+    (λ c κs. search needs)
+    (λ c. search needs)
+    (λ c κs. search needs)
+    (λ c. search needs)
+    (λ c κs. search needs)
+    (λ c. search needs)
+    (λ c κs. search needs)
+    (λ c. search needs)
+    (λ c κs. search needs)
+    (λ c. search needs)
+    (λ c κs. search needs)
+    (λ c. search needs)
+    (λ c κs. search needs)
+    (λ c. search needs)
+    (λ c κs. search needs)
     returns
     returns-2
     returns-3

@@ -5,18 +5,6 @@ use borrow.Author.Needs.{needs}
 use Rattle.rules.proofs.non_or.Statement.{statement}
 use Rattle.rules.proofs.non_or.Tie as tie
 
-next-formula-requires : tie.Need-next-formula-requires
-next-formula-requires c κs = search needs
-
-non-requires : tie.Need-non-requires
-non-requires c κs = search needs
-
-next-formula-requires-2 : tie.Need-next-formula-requires-2
-next-formula-requires-2 c κs = search needs
-
-non-requires-2 : tie.Need-non-requires-2
-non-requires-2 c κs = search needs
-
 returns : tie.Need-returns
 unfolding nonExpansion
 returns c = λ rs h. expands-two _ h _ (c .before .before .before .before .before .next-formula .ensures) (c .before .before .before .non .ensures) _ (c .before .before .next-formula2 .ensures) (c .non2 .ensures) (λ m. refl) (λ m s. rw (m, s) refl)
@@ -24,4 +12,4 @@ returns c = λ rs h. expands-two _ h _ (c .before .before .before .before .befor
 pub non-or-spec : {M : Type 1} → statement M
 non-or-spec =
     tie.close
-    (tie.spec next-formula-requires non-requires next-formula-requires-2 non-requires-2 returns)
+    (tie.spec (λ c κs. search needs) (λ c κs. search needs) (λ c κs. search needs) (λ c κs. search needs) returns)

@@ -20,29 +20,8 @@ abbrev μ-loop : tie.MeasureT-loop
 returns : tie.Need-returns Inv-loop μ-loop
 returns c = λ g d. absurd (omega (arith, c .if1 .taken, d .room))
 
-table-requires : tie.Need-table-requires Inv-loop μ-loop
-table-requires c κs = search needs
-
 loop-holds : tie.Need-loop-holds Inv-loop μ-loop
 loop-holds c = (search needs, λ g d. d .cells ∙ scan-start (edge g) _)
-
-mul-loop : tie.Need-mul-loop Inv-loop μ-loop
-mul-loop c = search needs
-
-vertex-at-requires : tie.Need-vertex-at-requires Inv-loop μ-loop
-vertex-at-requires c κs = search needs
-
-is-reflexive-vertex-requires : tie.Need-is-reflexive-vertex-requires Inv-loop μ-loop
-is-reflexive-vertex-requires c κs = search needs
-
-add-vertex-if-requires : tie.Need-add-vertex-if-requires Inv-loop μ-loop
-add-vertex-if-requires c κs = search needs
-
-add-n : tie.Need-add-n Inv-loop μ-loop
-add-n c = search needs
-
-loop-less : tie.Need-loop-less Inv-loop μ-loop
-loop-less c = search needs
 
 loop-again : tie.Need-loop-again Inv-loop μ-loop
 loop-again c = (search needs, λ g d. scan-next (edge g) _ _ _ _ _ _ _ (c .before .before .before .vertex-at .ensures .0 (c .before .before .before .before .before .before .before .table .ensures) (omega (arith, c .before .before .before .before .before .loop-test .taken, c .before .before .before .before .before .before .before .before .if1 .left))) (c .before .before .is-reflexive-vertex .ensures) (c .before .before .before .before .before .before .loop .inv .1 g d) (c .add-vertex-if .ensures))
@@ -53,17 +32,4 @@ returns-2 c = λ g d. drawn-reflexive d (c .before .loop .inv .1 g d ∙ scan-en
 pub add-missing-reflexive-vertices-spec : {M : Type 1} → statement M
 add-missing-reflexive-vertices-spec =
     tie.close
-    (tie.spec
-    Inv-loop
-    μ-loop
-    returns
-    table-requires
-    loop-holds
-    mul-loop
-    vertex-at-requires
-    is-reflexive-vertex-requires
-    add-vertex-if-requires
-    add-n
-    loop-less
-    loop-again
-    returns-2)
+    (tie.spec Inv-loop μ-loop returns (λ c κs. search needs) loop-holds (λ c. search needs) (λ c κs. search needs) (λ c κs. search needs) (λ c κs. search needs) (λ c. search needs) (λ c. search needs) loop-again returns-2)
