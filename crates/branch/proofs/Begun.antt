@@ -1,11 +1,13 @@
 -- The first nodes of a branch: their count, the loop of `branch_nodes`, the root, and the queue.
-use Prim.Native.Nat.{ℕ, _+_, _-_, _<_, _≤_}
+use Prim.Native.Nat.{ℕ, _+_, _<_, _≤_}
 use mathlib.Core.Path.{_≡_, refl, sym, ap, _∙_, subst}
-use mathlib.Core.Bool.{true}
-use mathlib.Core.List.{List, [], _∷_, _++_, map, reverse}
+use mathlib.Core.Bool.{Bool, true, false, cond}
+use mathlib.Core.List.{List, [], _∷_, _++_, map, reverse, append-nil}
 use native.Mathlib.Numerals.{add-one}
 use native.Mathlib.Omega.{arith}
-use borrow.Author.Tests.{eq-eqb, ne-eqb}
+use native.Mathlib.Decide.{decLe}
+use borrow.Author.Tests.{eq-eqb, ne-eqb, eqb-true, eqb-false}
+use lib.Dec.{eqb}
 use lib.ListN.{length, drop, length-map, drop-of-length-le}
 use lib.Seq.{drop-cons, set-getD}
 use Rattle.arrays.specs.Listed.{Listed}
@@ -17,9 +19,10 @@ use Rattle.definition.proofs.Nodes.{blank}
 use Rattle.definition.proofs.Count.{length-rooted}
 use Rattle.formula.specs.Recorded.{Recorded, missing}
 use Rattle.formula.proofs.Recorded.{recorded-count}
-use Rattle.tree.specs.declared.Chain.{Chain}
-use Rattle.tree.specs.Chain.{chainOf, Below}
+use Rattle.tree.specs.declared.IssuedChain.{IssuedChain}
+use Rattle.tree.specs.Chain.{chainOf, Below, DrawnFrom}
 use Rattle.tree.specs.Lay.{placeCode, lay, Held}
+use Rattle.tree.proofs.Chains.{spans-below, spans-chain}
 use Rattle.tree.proofs.Nodes.{held-ok, held-long, held-as}
 use Rattle.queue.specs.Pushing.{pushTreeNode}
 use Rattle.queue.proofs.Pushing.{push-begun}
@@ -66,12 +69,13 @@ module _ (rs : List Rec) where
 
   module _ {count : ℕ} {t : List ℕ} (p : Recorded rs count t) (few : count ≤ 1280) {len : ℕ} {a : List ℕ} (i : ℕ) (g : Beginning rs len a i) where
     module _ (m : ℕ) (h : i < count) (e : m ≡ recAt rs i .mark) where
-      pub beginning-marked : {k : ℕ} {b : List ℕ} → m ≡ 1 →
-          ((ns : List Node) → Held ns len a → Held (ns ++ (newNode nobody i 0 ∷ [])) k b) → Beginning rs k b (i + 1)
-      beginning-marked z f = growth-next (newNode nobody i 0) f (growth-as _ (from-marked i (omega (arith, recorded-count p few)) (sym e ∙ z)) g)
-
-      pub beginning-unmarked : (m ≡ 1 → ⊥) → Beginning rs len a (i + 1)
-      beginning-unmarked z = growth-as _ (from-unmarked i (omega (arith, recorded-count p few)) (λ y. z (e ∙ y))) g
+      -- record i read, and its node made if it is marked
+      pub beginning-next : (t : Bool) {k : ℕ} {b : List ℕ} → t ≡ eqb m 1 →
+          ((ns : List Node) → Held ns len a → Held (ns ++ cond t (newNode nobody i 0 ∷ []) []) k b) → Beginning rs k b (i + 1)
+      beginning-next true z f = growth-next (newNode nobody i 0) f (growth-as _ (from-marked i (omega (arith, recorded-count p few)) (sym e ∙ eqb-true m 1 (sym z))) g)
+      beginning-next false {k} {b} z f =
+          let r = growth-as _ (from-unmarked i (omega (arith, recorded-count p few)) (λ y. eqb-false m 1 (sym z) (e ∙ y))) g in
+          record { made = r .made; has = held-as (r .made) (append-nil (r .made)) (f (r .made) (r .has)); same = r .same }
 
     pub beginning-end : count ≤ i → Held (branchNodes rs) len a
     beginning-end h = growth-end (growth-as _ (from-last i (omega (arith, recorded-count p few))) g)
@@ -81,37 +85,24 @@ root-linked : (x : Node) (xs : List Node) → link (x ∷ xs) nobody Root 0 ≡ 
 unfolding link setChild
 root-linked x xs = set-getD (placedBelow nobody Root x ∷ xs) nobody blank
 
-root-chained : (x : Node) (xs : List Node) (c : Chain) → chainOf c ≡ upFrom (length xs) 1 → linkChain (link (x ∷ xs) nobody Root 0) 0 Middle (chainOf c) ≡ rooted (x ∷ xs)
-unfolding rooted
-root-chained x xs c e = rw (root-linked x xs, e) refl
+root-chained : (ns : List Node) → linkChain ns nobody Root (upFrom (length ns) 0) ≡ rooted ns
+unfolding linkChain rooted
+root-chained [] = refl
+root-chained (x ∷ xs) = ap (λ (ms : List Node). linkChain ms 0 Middle (upFrom (length xs) 1)) (root-linked x xs)
 
-module _ (ns : List Node) {len : ℕ} {a : List ℕ} (p : Held ns len a) where
-  pub rooted-none : len ≡ 0 → Held (rooted ns) len a
-  unfolding rooted
-  rooted-none e = go ns p
-    where
-      go : (ms : List Node) → Held ms len a → Held (rooted ms) len a
-      go [] q = q
-      go (x ∷ xs) q = absurd (omega (arith, held-ok q (omega arith) .0))
-
-  pub rooted-full : {b : List ℕ} → 512 < len → Held (rooted ns) len b
-  rooted-full h = held-long (rooted ns) p h (omega (arith, length-rooted ns))
-
--- the chain of `root_nodes`: all but the first node, rising
-abbrev pub further : ℕ → Chain
-further n = record { start = 1; count = n; rising = true }
-
-pub rooted-linked : (ns : List Node) {len : ℕ} {a b d : List ℕ} → Held ns len a → (len ≡ 0 → ⊥) → len ≤ 512 →
-    ((ms : List Node) (q : Place) → placeCode q ≡ 0 → Held ms len a → Held (link ms nobody q 0) len b) →
-    ((ms : List Node) (q : Place) → placeCode q ≡ 2 → Held ms len b → Below (further (len - 1)) (length ms) → Held (linkChain ms 0 q (chainOf (further (len - 1)))) len d) →
-    Held (rooted ns) len d
-unfolding chainOf
-rooted-linked [] p some few f g = absurd (some (sym (held-ok p few .0)))
-rooted-linked (x ∷ xs) {len} p some few f g =
-    let e : length xs ≡ len - 1 = omega (arith, held-ok p few .0) in
-    let q = f (x ∷ xs) Root refl p in
-    held-as (rooted (x ∷ xs)) (root-chained x xs (further (len - 1)) (ap (λ (n : ℕ). upFrom n 1) (sym e)))
-    (g _ Middle refl q (omega (arith, held-ok q few .0)))
+-- the chain of all nodes, linked from its top on
+pub rooted-linked : (ns : List Node) (r : IssuedChain) {a b : List ℕ} → Held ns (r .len) a → DrawnFrom 0 r →
+    ((ms : List Node) (q : Place) → placeCode q ≡ 0 → Held ms (r .len) a → (length ms ≤ 512 → Below (r .chain) (length ms)) → Held (linkChain ms nobody q (chainOf (r .chain))) (r .len) b) →
+    Held (rooted ns) (r .len) b
+rooted-linked ns r {a} {b} p d f = elim (decLe (r .len) 512) [
+  | yes h ↦
+      let s = d h in
+      let e = held-ok p h .0 in
+      let n : r .chain .count ≡ length ns = omega (arith, s .ends, e) in
+      held-as (rooted ns) (ap (linkChain ns nobody Root) (spans-chain s ∙ ap (λ (k : ℕ). upFrom k 0) n) ∙ root-chained ns)
+      (f ns Root refl p (λ _. omega (arith, spans-below s, e)))
+  | no h ↦ held-long (rooted ns) p (omega (arith, h)) (omega (arith, length-rooted ns))
+]
 
 -- ---- the queue
 pub queued : (rs : List Rec) {len m n : ℕ} {t a b : List ℕ} → length (branchNodes rs) ≡ len → len ≤ 512 →

@@ -7,10 +7,10 @@ use formula::push_input;
 use graph::PossibleWorld;
 use queue::push_tree_node;
 use tree::Chain;
+use tree::IssuedChain;
 use tree::ProofTreeNodeID;
-use tree::link;
+use tree::extend_if;
 use tree::link_chain;
-use tree::new_node;
 ghost use mathlib.Core.Path.{_≡_};
 ghost use mathlib.Core.List.{List, [], reverse};
 ghost use Prim.Native.Nat.{_≤_, _/_};
@@ -18,9 +18,9 @@ ghost use lib.ListN.{length};
 ghost use Rattle.arrays.specs.Listed.{Listed};
 ghost use Rattle.definition.specs.Lists.{below};
 ghost use Rattle.definition.specs.Records.{Rec, decode};
-ghost use Rattle.definition.specs.Tree.{Node};
 ghost use Rattle.definition.specs.Run.{rooted, branchNodes};
 ghost use Rattle.formula.specs.Recorded.{Recorded};
+ghost use Rattle.tree.specs.Chain.{DrawnFrom};
 ghost use Rattle.tree.specs.Lay.{lay, Held};
 
 // The records, in order.
@@ -44,52 +44,42 @@ pub fn read_records(branch: &[u8], formulas: &mut [u16; 5120]) -> usize
     n
 }
 
-// A node for each marked record.
-fn branch_nodes(formulas: &[u16; 5120], count: usize, tree: &mut [u16; 4608]) -> usize
-    ensures { λ r. ⌜ ((rs : List Rec) → Recorded rs count (now (formulas .entry)) → count ≤ 1280 → Held [] 0 (now (tree .entry)) → Held (branchNodes rs) r (now (tree .exit))) ⌝ }
+// A node for each marked record, each below the last one.
+fn branch_nodes(formulas: &[u16; 5120], count: usize, tree: &mut [u16; 4608]) -> IssuedChain
+    ensures { λ r. ⌜ DrawnFrom 0 r × ((rs : List Rec) → Recorded rs count (now (formulas .entry)) → count ≤ 1280 → Held [] 0 (now (tree .entry)) → Held (branchNodes rs) (r .len) (now (tree .exit))) ⌝ }
 {
-    let mut len: usize = 0;
+    let mut nodes = IssuedChain {
+        chain: Chain::EMPTY,
+        len: 0,
+    };
     let mut i: usize = 0;
     while i < count {
         if 1280 <= i {
-            return len;
+            return nodes;
         }
         let f = FormulaNumber(i as u16);
-        if mark_at(formulas, count, f) == 1 {
-            len = new_node(tree, len, ProofTreeNodeID::NONE, f, PossibleWorld::ZERO);
-        }
+        let marked = mark_at(formulas, count, f) == 1;
+        nodes = extend_if(
+            tree,
+            nodes,
+            ProofTreeNodeID::NONE,
+            f,
+            PossibleWorld::ZERO,
+            marked,
+        );
         i += 1;
     }
-    len
+    nodes
 }
 
-// The first node is the root; each further one is the middle child of the one before.
-fn root_nodes(tree: &mut [u16; 4608], len: usize)
-    ensures { λ r. ⌜ ((ns : List Node) → Held ns len (now (tree .entry)) → Held (rooted ns) len (now (tree .exit))) ⌝ }
-{
-    if len == 0 {
-        return;
-    }
-    if 512 < len {
-        return;
-    }
-    let root = ProofTreeNodeID(0);
-    link(tree, len, ProofTreeNodeID::NONE, 0, root);
-    let c = Chain {
-        start: 1,
-        count: (len - 1) as u16,
-        rising: true,
-    };
-    link_chain(tree, len, root, 2, c);
-}
-
-// The nodes of the branch, as many as are marked.
+// The nodes of the branch, as many as are marked: the first is the root; each further one is the middle child of the one before.
 pub fn begin_tree(formulas: &[u16; 5120], count: usize, tree: &mut [u16; 4608]) -> usize
     ensures { λ r. ⌜ ((rs : List Rec) → Recorded rs count (now (formulas .entry)) → count ≤ 1280 → Held [] 0 (now (tree .entry)) → Held (rooted (branchNodes rs)) r (now (tree .exit))) ⌝ }
 {
-    let len = branch_nodes(formulas, count, tree);
-    root_nodes(tree, len);
-    len
+    let nodes = branch_nodes(formulas, count, tree);
+    let chain = nodes.chain;
+    link_chain(tree, nodes.len, ProofTreeNodeID::NONE, 0, chain);
+    nodes.len
 }
 
 // The nodes of the branch, queued from the root.
@@ -97,5 +87,5 @@ pub fn begin_queue(tree: &[u16; 4608], len: usize, wait: &mut [u16; 512]) -> usi
     ensures { λ r. ⌜ ((rs : List Rec) → length (branchNodes rs) ≡ len → len ≤ 512 → now (tree .entry) ≡ lay (rooted (branchNodes rs)) → Listed [] 0 (now (wait .entry))
         → Listed (reverse (below (length (branchNodes rs)))) r (now (wait .exit))) ⌝ }
 {
-    push_tree_node(tree, wait, 0, ProofTreeNodeID(0), len)
+    push_tree_node(tree, wait, 0, ProofTreeNodeID::ROOT, len)
 }

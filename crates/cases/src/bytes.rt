@@ -121,7 +121,7 @@ pub fn number_of(line: &[u8], k: usize) -> usize
 }
 
 // A hexadecimal digit; 16 if the byte is none.
-pub fn hex_digit(b: u8) -> usize
+fn hex_digit(b: u8) -> usize
     ensures { λ r. ⌜ (r ≡ hexDigit b) × (r < 17) ⌝ }
 {
     match b {

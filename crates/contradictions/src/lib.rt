@@ -244,7 +244,7 @@ fn is_closed(tree: &[u16; 4608], len: usize) -> bool
     ensures { λ r. ⌜ ((ns : List Node) → Treed ns → length ns ≡ len → len ≤ 512 → now (tree .entry) ≡ lay ns → r ≡ empty (filter (takes ns 0) (leaves ns))) ⌝ }
 {
     let mut open = [0u16; 512];
-    let root = ProofTreeNodeID(0);
+    let root = ProofTreeNodeID::ROOT;
     takers(tree, len, root, &mut open) == 0
 }
 

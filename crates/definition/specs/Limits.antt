@@ -1,4 +1,4 @@
--- The limits of the paper, and the lengths of its records and trays. Code has the same numbers in src/lib.rt.
+-- The limits of the paper, and the lengths of its records and trays.
 use Prim.Native.Nat.{ℕ}
 
 -- "a branch is a run of 6-byte records"
@@ -13,7 +13,7 @@ mostRecords = 256
 abbrev pub mostSize : ℕ
 mostSize = 4096
 
--- "bad tick: flags above 15"
+-- "bad tick: flag byte 16 or more"
 abbrev pub mostFlags : ℕ
 mostFlags = 15
 

@@ -36,7 +36,7 @@ enum More {
 
 // The count of bytes seen, with n more. It is exact up to 1,536 (256 records); beyond that it is
 // the one of 1,542 to 1,547 that has the same remainder by 6, and so the same answer.
-pub fn add(seen: usize, n: usize) -> usize
+fn add(seen: usize, n: usize) -> usize
     ensures { λ r. ⌜ r ≡ window (seen + n) ⌝ }
 {
     if seen <= 1536 {

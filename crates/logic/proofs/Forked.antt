@@ -25,13 +25,15 @@ use Rattle.definition.proofs.Growing.{Steady, rule-steady}
 use Rattle.definition.proofs.Nodes.{ext-subtree, ext-result}
 use Rattle.graph.specs.Drawn.{Drawn}
 use Rattle.tree.specs.Lay.{Held, held}
-use Rattle.tree.specs.Chain.{chainOf}
+use Rattle.tree.specs.Chain.{chainOf, fallingChain, emptyChain}
+use Rattle.tree.specs.Sequence.{idAt}
+use Rattle.tree.proofs.Sequence.{id-fits}
 use Rattle.tree.proofs.Paths.{listed-as, leaves-as}
 use Rattle.tree.proofs.Nodes.{held-ok, held-fits, held-long, held-as}
 use Rattle.necessities.specs.Stack.{Stack}
 use Rattle.subtree.specs.declared.ProofSubtree.{ProofSubtree}
 use Rattle.subtree.specs.declared.Counts.{Counts}
-use Rattle.subtree.specs.Subtree.{subtreeOf, Within, Left}
+use Rattle.subtree.specs.Subtree.{subtreeOf, Within, Chained, Left}
 use Rattle.subtree.specs.Rows.{Row, Rows, itemFrom}
 use Rattle.subtree.proofs.Rows.{rows-none, rows-more}
 use Rattle.modality.specs.Seen.{Seen}
@@ -42,7 +44,7 @@ use Rattle.logic.specs.Sizes.{Before, After, placing}
 
 -- the comment stands above
 pub commented : (start : ℕ) →
-    subtreeOf (record { left = record { start = 0; count = 0; rising = true }; middle = record { start = start; count = 2; rising = false }; right = record { start = 0; count = 0; rising = true } }) ≡ withMiddle (suc start ∷ start ∷ [])
+    subtreeOf (record { left = emptyChain; middle = fallingChain start 2; right = emptyChain }) ≡ withMiddle (suc start ∷ start ∷ [])
 unfolding subtreeOf chainOf
 commented start = refl
 
@@ -60,24 +62,23 @@ pub left-as : {p g : Placed} {r : Counts} {a w : List ℕ} → p ≡ g → Left 
 left-as {p} {g} {r} {a} {w} e l = subst (λ (v : Placed). Left v r a w) e l
 
 pub fork-placed : (ns : List Node) (q : List ℕ) (more : List Targeted) (x base : ℕ) (s : ProofSubtree) {len n items : ℕ} {ta tb tc wa wb wc ia : List ℕ} {top r : Counts} →
-    len ≤ 512 → Held ns len ta → Listed q n wa → base + 2 ≤ length ns → (len ≤ 512 → Listing [] more items len ia) → Steady ns q (forkItem x base ∷ more) →
-    (base + 2 ≤ 512 → (subtreeOf s ≡ withMiddle (suc base ∷ base ∷ [])) × ((m : ℕ) → base + 2 ≤ m → Within s m)) →
-    ((ns : List Node) (q : List ℕ) → Held ns len ta → (len ≤ 512 → Listed q n wa) → Within s (length ns) → (length ns ≤ 512 → Treed ns) → Left (appendSubtree ns q x (subtreeOf s)) top tb wb) →
+    (id : ℕ) → len ≤ 512 → Held ns len ta → Listed q n wa → (len ≤ 512 → id ≡ base) → base + 2 ≤ length ns → (len ≤ 512 → Listing [] more items len ia) → Steady ns q (forkItem x base ∷ more) →
+    (subtreeOf s ≡ withMiddle (suc id ∷ id ∷ [])) × ((m : ℕ) → id + 2 ≤ m → Within s m) →
+    ((ns : List Node) (q : List ℕ) (t : Subtree) → Held ns len ta → (len ≤ 512 → Listed q n wa) → (length ns ≤ 512 → Chained s t (length ns)) → (length ns ≤ 512 → Treed ns) → Left (appendSubtree ns q x t) top tb wb) →
     ((ns : List Node) (q : List ℕ) (rs : List Row) → Held ns (top .nodes) tb → (top .nodes ≤ 512 → Listed q (top .waiting) wb) → (top .nodes ≤ 512 → Rows rs items ia (length ns)) →
     Steady ns q (map itemFrom rs) → Left (appendLogicRuleResult ns q (map itemFrom rs)) r tc wc) →
     Left (appendLogicRuleResult ns q (forkItem x base ∷ more)) r tc wc
 unfolding appendLogicRuleResult
-fork-placed ns q more x base s small h l low list st comment one rest =
+fork-placed ns q more x base s id small h l at low list st comment one rest =
     let e = held-ok h small .0 in
-    let c = comment (omega (arith, low, e, small)) in
-    let first = one ns q h (λ _. l) (c .1 (length ns) low) (st .0) in
+    let t = withMiddle (suc base ∷ base ∷ []) in
+    let chained : Chained s t (length ns) = record { are = comment .0 ∙ ap (λ (k : ℕ). withMiddle (suc k ∷ k ∷ [])) (at small); within = comment .1 (length ns) (omega (arith, low, at small)) } in
+    let first = one ns q t h (λ _. l) (λ _. chained) (st .0) in
     let put = list small in
-    let p = appendSubtree ns q x (subtreeOf s) in
-    let long = ext-subtree ns q x (subtreeOf s) .longer in
-    let steady = subst (Steady (p .nodes) (p .waiting)) (sym (put .are)) (subst (λ (t : Subtree). Steady (appendSubtree ns q x t .nodes) (appendSubtree ns q x t .waiting) more) (sym (c .0)) (st .1)) in
-    let second = rest (p .nodes) (p .waiting) (put .all) (first .nodes) (first .queue) (λ _. rows-more (omega (arith, e, long)) (put .rows)) steady in
-    left-as (ap (λ (rs : List Targeted). appendLogicRuleResult (p .nodes) (p .waiting) rs) (put .are)
-    ∙ ap (λ (t : Subtree). appendLogicRuleResult (appendSubtree ns q x t .nodes) (appendSubtree ns q x t .waiting) more) (c .0)) second
+    let p = appendSubtree ns q x t in
+    let long = ext-subtree ns q x t .longer in
+    let second = rest (p .nodes) (p .waiting) (put .all) (first .nodes) (first .queue) (λ _. rows-more (omega (arith, e, long)) (put .rows)) (subst (Steady (p .nodes) (p .waiting)) (sym (put .are)) (st .1)) in
+    left-as (ap (λ (rs : List Targeted). appendLogicRuleResult (p .nodes) (p .waiting) rs) (put .are)) second
 
 -- the graph has room for one world more
 pub known-few : (F : Flags) (g : Graph) {n m : ℕ} {a b : List ℕ} → Drawn g n a → n < 25 → Drawn (initializeGraphIfNeeded F g) m b → m < 25
@@ -100,15 +101,16 @@ module _ (F : Flags) (s : State) (x : ℕ) (recs : List Rec) (f : ℕ) (q : List
   abbrev pub both : List Node
   both = newNode x f (forkedWorld g₀) ∷ newNode x nobody 0 ∷ []
 
-  pub possibility-after : {made : Given} {r : Counts} {base c n worlds : ℕ} {ta tb ea ra la va oa wa wb ia : List ℕ} → length (s .nodes) ≡ base →
+  pub possibility-after : {made : Given} {r : Counts} {base id c n worlds : ℕ} {ta tb ea ra la va oa wa wb ia : List ℕ} → length (s .nodes) ≡ base →
       Gave (s .nodes ++ both) [] (reapplyNecessityAfterPossibility (s .nodes) forked forking (length (s .nodes ++ both)) (s .necessities)) made ta ia →
       (made .nodes ≤ 512 → Stack (necessitiesAfterPossibility (s .nodes) forked forking (s .necessities)) c oa ra la va) → Drawn forked worlds ea → Listed q n wa → Treed (s .nodes) →
-      ((ns : List Node) (q : List ℕ) (more : List Targeted) → Held ns (made .nodes) ta → Listed q n wa → base + 2 ≤ length ns → (made .nodes ≤ 512 → Listing [] more (made .items) (made .nodes) ia) →
-      Steady ns q (forkItem x base ∷ more) →
-      Left (appendLogicRuleResult ns q (forkItem x base ∷ more)) r tb wb) →
+      id ≡ idAt base →
+      ((ns : List Node) (q : List ℕ) (more : List Targeted) (k : ℕ) → Held ns (made .nodes) ta → Listed q n wa → (made .nodes ≤ 512 → id ≡ k) → k + 2 ≤ length ns → (made .nodes ≤ 512 → Listing [] more (made .items) (made .nodes) ia) →
+      Steady ns q (forkItem x k ∷ more) →
+      Left (appendLogicRuleResult ns q (forkItem x k ∷ more)) r tb wb) →
       After (record { nodes = r .nodes; waiting = r .waiting; worlds = worlds; necessities = c }) tb ea ra la va oa wb (applyPossibility F s x recs f) (placing s q (applyPossibility F s x recs f))
   unfolding applyRule applyPossibility
-  possibility-after {made} {r} {base} {ta = ta} {ia = ia} e gave stack d l tree place =
+  possibility-after {made} {r} {base} {id} {ta = ta} {ia = ia} e gave stack d l tree drawn place =
       let n = length (s .nodes) in
       let two : length (s .nodes ++ both) ≡ n + 2 = length-append (s .nodes) both in
       let R = reapplyNecessityAfterPossibility (s .nodes) forked forking (n + 2) (s .necessities) in
@@ -118,7 +120,8 @@ module _ (F : Flags) (s : State) (x : ℕ) (recs : List Rec) (f : ℕ) (q : List
       let h = held-as all assoc (got .nodes) in
       let low : base + 2 ≤ length all = omega (arith, e, two, ap length assoc, length-append (s .nodes ++ both) (R .nodes)) in
       let same : forkItem x base ∷ R .subtrees ≡ forkItem x n ∷ R .subtrees = ap (λ (k : ℕ). forkItem x k ∷ R .subtrees) (sym e) in
-      let p = place all q (R .subtrees) h l low (got .rows) (subst (Steady all q) (sym same) (rule-steady F s x recs (asPossible f) q tree)) in
+      let at : made .nodes ≤ 512 → id ≡ base = λ small. drawn ∙ id-fits base (omega (arith, held-ok h small .0, small, low)) in
+      let p = place all q (R .subtrees) base h l at low (got .rows) (subst (Steady all q) (sym same) (rule-steady F s x recs (asPossible f) q tree)) in
       let out = left-as (ap (appendLogicRuleResult all q) same) p in
       record {
         nodes = out .nodes;

@@ -48,7 +48,7 @@ module _ (t : List Node) (fk : Option Fork) (n : Necessity) (ws : List ℕ) wher
   module _ {goal : List Node} {rs : List Row} {items : List Targeted} {len count : ℕ} {a ia : List ℕ} where
     pub giving-next : (leaf : ℕ) (rest : List ℕ) (g : Giving (leaf ∷ rest) goal rs items len a count ia) {len′ count′ : ℕ} {b ib : List ℕ} →
         Held ((t ++ g .more) ++ made leaf) len′ b →
-        ((rs′ : List Row) → Rows rs′ count ia len → len ≤ len′ → len′ ≤ 512 → Listing rs′ (item leaf (len′ - len) len ∷ []) count′ len′ ib) →
+        ((rs′ : List Row) → Rows rs′ count ia len → len′ ≤ 512 → Listing rs′ (item leaf (len′ - len) len ∷ []) count′ len′ ib) →
         Giving rest goal rs items len′ b count′ ib
     unfolding giveOn
     giving-next leaf rest g {len′} {count′} {b} {ib} h push =
@@ -74,7 +74,7 @@ module _ (t : List Node) (fk : Option Fork) (n : Necessity) (ws : List ℕ) wher
               let at = held-ok (g .held) fits .0 in
               let was = g .rows fits in
               let size : len′ - len ≡ k = omega (arith, low, at) in
-              let next = push (was .all) (was .rows) (omega (arith, low, at)) small in
+              let next = push (was .all) (was .rows) small in
               listing-both (g .done) (item leaf k (length base) ∷ []) was
               (listing-as leaf size (sym at) next);
         }
@@ -101,7 +101,7 @@ module _ (t : List Node) (fk : Option Fork) (n : Necessity) (ws : List ℕ) wher
     pub giving-entry : (ls : List ℕ) {j k leaf x f : ℕ} {l : List ℕ} → Listed ls k l → k ≤ 512 → j < k → leaf ≡ getD ls j 0 → n .spawner ≡ x → n .formula ≡ f →
         (g : Giving (drop j ls) goal rs items len a count ia) {len′ count′ : ℕ} {b ib : List ℕ} →
         (Held (t ++ g .more) len a → Held ((t ++ g .more) ++ map (newNode x f) (filter (occurs t fk (path t leaf)) ws)) len′ b) →
-        ((rs′ : List Row) → Rows rs′ count ia len → len ≤ len′ → len′ ≤ 512 → Listing rs′ (item leaf (len′ - len) len ∷ []) count′ len′ ib) →
+        ((rs′ : List Row) → Rows rs′ count ia len → len′ ≤ 512 → Listing rs′ (item leaf (len′ - len) len ∷ []) count′ len′ ib) →
         Giving (drop (j + 1) ls) goal rs items len′ b count′ ib
     unfolding giving-turn
     giving-entry ls {j} {k} {leaf} {x} {f} lk small up e p q g h push =

@@ -5,6 +5,8 @@ use mathlib.Core.List.{List, [], _∷_, _++_, map, append-nil, append-assoc}
 use native.Mathlib.Omega.{arith}
 use Rattle.definition.specs.Lists.{upFrom}
 use Rattle.definition.specs.Subtree.{Targeted, withMiddle}
+use Rattle.tree.specs.declared.Chain.{Chain}
+use Rattle.tree.specs.Chain.{Spans}
 use Rattle.subtree.specs.Rows.{Row, Rows, itemFrom}
 use Rattle.subtree.proofs.Rows.{rows-skip}
 use Rattle.logic.specs.Gave.{Listing}
@@ -17,14 +19,16 @@ map-append f (x ∷ xs) ys = ap (λ (zs : List _). f x ∷ zs) (map-append f xs 
 abbrev pub item : ℕ → ℕ → ℕ → Targeted
 item target n start = record { target = target; subtree = withMiddle (upFrom n start) }
 
--- one row more
-pub listing-one : {rs : List Row} {count start finish : ℕ} {ia : List ℕ} (target : ℕ) →
-    Rows (rs ++ (record { target = target; start = start; count = finish - start } ∷ [])) count ia (start + (finish - start)) → start ≤ finish →
-    Listing rs (item target (finish - start) start ∷ []) count finish ia
-listing-one {rs} {count} {start} {finish} {ia} target h up =
-    let e : start + (finish - start) ≡ finish = omega (arith, up) in
-    let all = rs ++ (record { target = target; start = start; count = finish - start } ∷ []) in
-    record { all = all; rows = subst (λ (m : ℕ). Rows all count ia m) e h; are = map-append itemFrom rs _ }
+-- one row more, of identifiers that were drawn
+pub listing-one : {rs : List Row} {count lo hi : ℕ} {ia : List ℕ} {c : Chain} (target : ℕ) → Spans c lo hi → Rows (rs ++ (record { target = target; start = lo; count = c .count } ∷ [])) count ia hi →
+    Listing rs (item target (hi - lo) lo ∷ []) count hi ia
+listing-one {rs} {count} {lo} {hi} {ia} {c} target s h =
+    let e : c .count ≡ hi - lo = omega (arith, s .ends) in
+    record {
+      all = rs ++ (record { target = target; start = lo; count = hi - lo } ∷ []);
+      rows = subst (λ (n : ℕ). Rows (rs ++ (record { target = target; start = lo; count = n } ∷ [])) count ia hi) e h;
+      are = map-append itemFrom rs _;
+    }
 
 -- a row without a node is none of the table's
 pub listing-skip : {rs : List Row} {count len : ℕ} {ia : List ℕ} (target : ℕ) → Listing rs [] count len ia → Listing rs (item target 0 0 ∷ []) count len ia

@@ -27,8 +27,8 @@ use subtree::ProofSubtree;
 use subtree::append_logic_rule_result;
 use subtree::append_subtree;
 use subtree::push_item;
-use subtree::with_middle_vertical_nodes;
 use tree::Chain;
+use tree::Issued;
 use tree::ProofTreeNodeID;
 use tree::leaves_below;
 use tree::new_node;
@@ -37,10 +37,10 @@ ghost use mathlib.Core.Path.{_≡_};
 ghost use mathlib.Core.Bool.{cond};
 ghost use mathlib.Core.List.{List, [], _∷_, _++_};
 ghost use mathlib.Core.Option.{Option, some};
-ghost use Prim.Native.Nat.{ℕ, suc, _≤_, _<_, _+_, _-_};
+ghost use Prim.Native.Nat.{ℕ, suc, _≤_, _<_, _+_};
 ghost use lib.ListN.{length, getD, set};
 ghost use Rattle.arrays.specs.Listed.{Listed};
-ghost use Rattle.definition.specs.Lists.{Each, upFrom};
+ghost use Rattle.definition.specs.Lists.{Each};
 ghost use Rattle.definition.specs.Records.{Rec, nobody};
 ghost use Rattle.definition.specs.Flags.{Flags};
 ghost use Rattle.definition.specs.Graph.{Graph};
@@ -54,6 +54,7 @@ ghost use Rattle.definition.proofs.Treed.{Treed};
 ghost use Rattle.definition.proofs.Growing.{Steady};
 ghost use Rattle.definition.proofs.Spawned.{Spawned};
 ghost use Rattle.tree.specs.Lay.{lay, Held};
+ghost use Rattle.tree.specs.Sequence.{idAt};
 ghost use Rattle.necessities.specs.Stored.{Row};
 ghost use Rattle.necessities.specs.Stack.{Stack};
 ghost use Rattle.subtree.specs.Rows as subtrees;
@@ -68,26 +69,6 @@ pub struct Given {
     pub items: usize,
 }
 
-// A row for the identifiers from `start` on; nothing where the table of nodes is full.
-fn push_given(
-    items: &mut [u16; 1536],
-    count: usize,
-    leaf: ProofTreeNodeID,
-    start: usize,
-    end: usize,
-) -> usize
-    ensures { λ r. ⌜ ((rs : List subtrees.Row) → subtrees.Rows rs count (now (items .entry)) start → start ≤ end → end ≤ 512
-        → Listing rs (record { target = leaf .0; subtree = withMiddle (upFrom (end - start) start) } ∷ []) r end (now (items .exit))) ⌝ }
-{
-    if end < start {
-        return count;
-    }
-    if 512 < end {
-        return count;
-    }
-    push_item(items, count, leaf, start as u16, (end - start) as u16)
-}
-
 // The word of leaf x.
 fn word_at(seen: &[u32; 512], x: ProofTreeNodeID) -> u32
     ensures { λ r. ⌜ (x .0 < 512 → r ≡ getD (now (seen .entry)) (x .0) 0) ⌝ }
@@ -100,7 +81,7 @@ fn word_at(seen: &[u32; 512], x: ProofTreeNodeID) -> u32
 }
 
 // Path by path, a node for each of the worlds that occurs there, as the leaf's word says.
-pub fn give_on(
+fn give_on(
     tree: &mut [u16; 4608],
     len: usize,
     spawner: ProofTreeNodeID,
@@ -125,12 +106,12 @@ pub fn give_on(
     let mut j: usize = 0;
     while j < k {
         let leaf = ProofTreeNodeID(nth(on, j));
-        let start = here.nodes;
         let word = word_at(seen, leaf);
-        let end = give_on_leaf(tree, start, spawner, formula, word, worlds, m);
-        let n = push_given(items, here.items, leaf, start, end);
+        let given = give_on_leaf(tree, here.nodes, spawner, formula, word, worlds, m);
+        let chain = given.chain;
+        let n = push_item(items, here.items, leaf, chain);
         here = Given {
-            nodes: end,
+            nodes: given.len,
             items: n,
         };
         j += 1;
@@ -415,57 +396,58 @@ pub fn apply_necessity(
     }
 }
 
-// The new world's formula and, above it, the comment: two identifiers from `start` on, the second on top.
-fn with_comment(start: usize) -> ProofSubtree
-    ensures { λ r. ⌜ (start + 2 ≤ 512 → (subtreeOf r ≡ withMiddle (suc start ∷ start ∷ [])) × ((m : ℕ) → start + 2 ≤ m → Within r m)) ⌝ }
+// The new world's formula, under its identifier, and the comment above it, which is the next.
+fn with_comment(id: ProofTreeNodeID) -> ProofSubtree
+    ensures { λ r. ⌜ (subtreeOf r ≡ withMiddle (suc (id .0) ∷ id .0 ∷ [])) × ((m : ℕ) → id .0 + 2 ≤ m → Within r m) ⌝ }
 {
-    if 510 < start {
-        return with_middle_vertical_nodes(0, 0);
-    }
+    let middle = Chain {
+        start: id,
+        count: 2,
+        rising: false,
+    };
     ProofSubtree {
-        left: Chain {
-            start: 0,
-            count: 0,
-            rising: true,
-        },
-        middle: Chain {
-            start: start as u16,
-            count: 2,
-            rising: false,
-        },
-        right: Chain {
-            start: 0,
-            count: 0,
-            rising: true,
-        },
+        left: Chain::EMPTY,
+        middle,
+        right: Chain::EMPTY,
     }
 }
 
-// The formula's node in the new world, and then its comment's.
+// The formula's node in the new world, and then its comment's: the formula's identifier, and the count after both.
 fn fork_nodes(
     tree: &mut [u16; 4608],
     len: usize,
     x: ProofTreeNodeID,
     f: FormulaNumber,
     v: PossibleWorld,
-) -> usize
-    ensures { λ r. ⌜ ((ns : List Node) → Held ns len (now (tree .entry)) → Held (ns ++ (newNode (x .0) (f .0) (v .0) ∷ newNode (x .0) nobody 0 ∷ [])) r (now (tree .exit))) ⌝ }
+) -> Issued
+    ensures { λ r. ⌜ (r .id .0 ≡ idAt len) × ((ns : List Node) → Held ns len (now (tree .entry)) → Held (ns ++ (newNode (x .0) (f .0) (v .0) ∷ newNode (x .0) nobody 0 ∷ [])) (r .len) (now (tree .exit))) ⌝ }
 {
-    let a = new_node(tree, len, x, f, v);
-    new_node(tree, a, x, FormulaNumber(65535), PossibleWorld::ZERO)
+    let formula = new_node(tree, len, x, f, v);
+    let comment = new_node(
+        tree,
+        formula.len,
+        x,
+        FormulaNumber(65535),
+        PossibleWorld::ZERO,
+    );
+    let id = formula.id;
+    Issued {
+        id,
+        len: comment.len,
+    }
 }
 
-// The fork's two nodes, whose identifiers start at `base`, and then the subtrees that necessities gave.
+// The fork's two nodes, the first under `id`, and then the subtrees that necessities gave.
 fn place_fork(
     tree: &mut [u16; 4608],
-    base: usize,
+    id: ProofTreeNodeID,
     made: Given,
     x: ProofTreeNodeID,
     items: &[u16; 1536],
     wait: &mut [u16; 512],
     n: usize,
 ) -> Counts
-    ensures { λ r. ⌜ ((ns : List Node) (q : List ℕ) (more : List Targeted) → Held ns (made .nodes) (now (tree .entry)) → Listed q n (now (wait .entry)) → base + 2 ≤ length ns
+    ensures { λ r. ⌜ ((ns : List Node) (q : List ℕ) (more : List Targeted) (base : ℕ) → Held ns (made .nodes) (now (tree .entry)) → Listed q n (now (wait .entry)) → (made .nodes ≤ 512 → id .0 ≡ base) → base + 2 ≤ length ns
         → (made .nodes ≤ 512 → Listing [] more (made .items) (made .nodes) (now (items .entry))) → Steady ns q (record { target = x .0; subtree = withMiddle (suc base ∷ base ∷ []) } ∷ more)
         → Left (appendLogicRuleResult ns q (record { target = x .0; subtree = withMiddle (suc base ∷ base ∷ []) } ∷ more)) r (now (tree .exit)) (now (wait .exit))) ⌝ }
 {
@@ -475,7 +457,7 @@ fn place_fork(
             waiting: n,
         };
     }
-    let top = append_subtree(tree, made.nodes, x, with_comment(base), wait, n);
+    let top = append_subtree(tree, made.nodes, x, with_comment(id), wait, n);
     append_logic_rule_result(tree, top.nodes, items, made.items, wait, top.waiting)
 }
 
@@ -500,7 +482,7 @@ fn worlds_at_fork(
         world: v,
     };
     let mut all = [0u16; 512];
-    let m = leaves_below(tree, ProofTreeNodeID(0), base, &mut all, 0);
+    let m = leaves_below(tree, ProofTreeNodeID::ROOT, base, &mut all, 0);
     worlds_on_paths(tree, base, forking, &all, m, seen);
 }
 
@@ -527,8 +509,10 @@ pub fn apply_possibility(
     let worlds = fork_world(edges, known, world_of(tree, x), logic);
     let mut seen = [0u32; 512];
     worlds_at_fork(tree, p.nodes, x, v, p.necessities, &mut seen);
+    let forked = fork_nodes(tree, p.nodes, x, f, v);
+    let id = forked.id;
     let begun = Given {
-        nodes: fork_nodes(tree, p.nodes, x, f, v),
+        nodes: forked.len,
         items: 0,
     };
     let mut items = [0u16; 1536];
@@ -546,7 +530,7 @@ pub fn apply_possibility(
         &seen,
         &mut items,
     );
-    let placed = place_fork(tree, p.nodes, made, x, &items, wait, p.waiting);
+    let placed = place_fork(tree, id, made, x, &items, wait, p.waiting);
     Sizes {
         nodes: placed.nodes,
         waiting: placed.waiting,

@@ -29,13 +29,6 @@ unvisited-by g n u w e f =
 abbrev pub through : List Node → Necessity → ℕ → Bool
 through t n leaf = runsThrough n (path t leaf)
 
--- ---- one node, if it is to be made
-pub make-one : (ns : List Node) {n : ℕ} {a : List ℕ} (x : Node) {b : Bool} → b ≡ true → Held (ns ++ (x ∷ [])) n a → Held (ns ++ cond b (x ∷ []) []) n a
-make-one ns x {b} e p = held-as (ns ++ cond b (x ∷ []) []) (rw e refl) p
-
-pub make-none : (ns : List Node) {n : ℕ} {a : List ℕ} (x : Node) {b : Bool} → b ≡ false → Held ns n a → Held (ns ++ cond b (x ∷ []) []) n a
-make-none ns x {b} e p = held-as (ns ++ cond b (x ∷ []) []) (rw e (sym (append-nil ns))) p
-
 map-one : (f : ℕ → Node) (xs : List ℕ) (x : ℕ) (b : Bool) → map f (xs ++ cond b (x ∷ []) []) ≡ map f xs ++ cond b (f x ∷ []) []
 map-one f [] x true = refl
 map-one f [] x false = refl

@@ -6,9 +6,11 @@ use bits::bit;
 use bits::with_bit;
 use formula::FormulaNumber;
 use graph::PossibleWorld;
+use tree::Chain;
+use tree::IssuedChain;
 use tree::ProofTreeNodeID;
+use tree::extend_if;
 use tree::leaves_below;
-use tree::new_node;
 use tree::parent_of;
 use tree::place_of;
 use tree::world_of;
@@ -27,6 +29,7 @@ ghost use Rattle.definition.specs.Modality.{Necessity, Fork, runsThrough, occur
 ghost use Rattle.definition.proofs.Treed.{placed, Treed};
 ghost use Rattle.definition.proofs.Spawned.{Spawned};
 ghost use Rattle.graph.specs.Drawn.{Drawn};
+ghost use Rattle.tree.specs.Chain.{DrawnFrom};
 ghost use Rattle.tree.specs.Lay.{Held};
 ghost use Rattle.necessities.specs.Stored.{InRow, InWord};
 ghost use Rattle.modality.specs.Stands.{Stands};
@@ -331,24 +334,7 @@ pub fn unvisited(
     n
 }
 
-// One node more, if it is to be made.
-fn new_node_if(
-    tree: &mut [u16; 4608],
-    len: usize,
-    spawner: ProofTreeNodeID,
-    formula: FormulaNumber,
-    world: PossibleWorld,
-    keep: bool,
-) -> usize
-    ensures { λ r. ⌜ ((ns : List Node) → Held ns len (now (tree .entry)) → Held (ns ++ cond keep (newNode (spawner .0) (formula .0) (world .0) ∷ []) []) r (now (tree .exit))) ⌝ }
-{
-    if keep {
-        return new_node(tree, len, spawner, formula, world);
-    }
-    len
-}
-
-// On one path: a node for each of the worlds that is among those that occur there.
+// On one path: a node for each of the worlds that is among those that occur there, each below the last one.
 pub fn give_on_leaf(
     tree: &mut [u16; 4608],
     len: usize,
@@ -357,17 +343,20 @@ pub fn give_on_leaf(
     here: u32,
     worlds: &[u16; 512],
     m: usize,
-) -> usize
-    ensures { λ r. ⌜ ((ns : List Node) (p : ℕ → Bool) (ws : List ℕ) → Listed ws m (now (worlds .entry)) → m ≤ 512 → Each (λ v. v < 32) ws → ((v : ℕ) → v < 32 → bitOf here v ≡ p v)
-        → Held ns len (now (tree .entry)) → Held (ns ++ map (newNode (spawner .0) (formula .0)) (filter p ws)) r (now (tree .exit))) ⌝ }
+) -> IssuedChain
+    ensures { λ r. ⌜ DrawnFrom len r × ((ns : List Node) (p : ℕ → Bool) (ws : List ℕ) → Listed ws m (now (worlds .entry)) → m ≤ 512 → Each (λ v. v < 32) ws → ((v : ℕ) → v < 32 → bitOf here v ≡ p v)
+        → Held ns len (now (tree .entry)) → Held (ns ++ map (newNode (spawner .0) (formula .0)) (filter p ws)) (r .len) (now (tree .exit))) ⌝ }
 {
-    let mut n = len;
+    let mut given = IssuedChain {
+        chain: Chain::EMPTY,
+        len,
+    };
     let mut j: usize = 0;
     while j < m {
         let v = nth(worlds, j);
         let occurs = bit(here, v as usize);
-        n = new_node_if(tree, n, spawner, formula, PossibleWorld(v), occurs);
+        given = extend_if(tree, given, spawner, formula, PossibleWorld(v), occurs);
         j += 1;
     }
-    n
+    given
 }

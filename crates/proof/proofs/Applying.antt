@@ -11,7 +11,7 @@ use Rattle.definition.specs.Flags.{Flags}
 use Rattle.definition.specs.Records.{Rec}
 use Rattle.definition.specs.Tree.{Node, nodeAt, leaves}
 use Rattle.definition.specs.Rules.{Rule, nothing, down, split, asPossible, asNecessary}
-use Rattle.definition.specs.Subtree.{Subtree, appendSubtree, appendLogicRuleResult}
+use Rattle.definition.specs.Subtree.{Subtree, turned, numbered, appendSubtree, appendLogicRuleResult}
 use Rattle.definition.specs.Contradiction.{Pair, pairs, markAll, isPair}
 use Rattle.definition.specs.Run.{State, LogicRuleResult, applyHere, applyPossibility, applyNecessity, applyRule, checkedForContradictions, checkForContradictions}
 use Rattle.definition.proofs.Treed.{Treed}
@@ -19,7 +19,7 @@ use Rattle.definition.proofs.Growing.{here-treed}
 use Rattle.tree.specs.Lay.{Held}
 use Rattle.subtree.specs.declared.ProofSubtree.{ProofSubtree}
 use Rattle.subtree.specs.declared.Counts.{Counts}
-use Rattle.subtree.specs.Subtree.{subtreeOf, Within, Left}
+use Rattle.subtree.specs.Subtree.{subtreeOf, Within, Chained, Left}
 use Rattle.rules.specs.declared.AppliedHere.{AppliedHere}
 use Rattle.rules.specs.Here.{hereOf, Here}
 use Rattle.logic.specs.declared.Sizes.{Sizes}
@@ -32,15 +32,13 @@ asSubtree h = record { left = h .left; middle = h .middle; right = h .right }
 
 pub here-after : (s : State) (x : ℕ) (recs : List Rec) (fs : Subtree) (q : List ℕ) {p : Sizes} {ta tb tc ea ra la va oa wa wb : List ℕ} {h : AppliedHere} {r : Counts} → Before p ta ea ra la va oa wa s q →
     (Held (s .nodes) (p .nodes) ta → Here (s .nodes) x (nodeAt (s .nodes) x .world) fs h tb) →
-    ((ns : List Node) (q : List ℕ) → Held ns (h .nodes) tb → (h .nodes ≤ 512 → Listed q (p .waiting) wa) → Within (asSubtree h) (length ns) → (length ns ≤ 512 → Treed ns) → Left (appendSubtree ns q x (subtreeOf (asSubtree h))) r tc wb) →
+    ((ns : List Node) (q : List ℕ) (t : Subtree) → Held ns (h .nodes) tb → (h .nodes ≤ 512 → Listed q (p .waiting) wa) → (length ns ≤ 512 → Chained (asSubtree h) t (length ns)) → (length ns ≤ 512 → Treed ns) → Left (appendSubtree ns q x t) r tc wb) →
     After (record { nodes = r .nodes; waiting = r .waiting; worlds = p .worlds; necessities = p .necessities }) tc ea ra la va oa wb (applyHere s x recs fs) (placing s q (applyHere s x recs fs))
 unfolding applyHere appendLogicRuleResult subtreeOf
-here-after s x recs fs q {tc = tc} {wb = wb} {r = r} b make place =
+here-after s x recs fs q b make place =
     let h = make (before-held b) in
-    let low = h .below (b .fits) in
-    let N = s .nodes ++ applyHere s x recs fs .nodes in
-    let put = place N q (h .nodes) (λ _. b .waiting) (record { onLeft = low .0 .0; onMiddle = low .0 .1; onRight = low .1 }) (λ _. here-treed s x recs fs (b .treed)) in
-    let out = subst (λ (t : Subtree). Left (appendSubtree N q x t) r tc wb) (h .chains (b .fits)) put in
+    let out = place _ q (turned (numbered (length (s .nodes)) fs)) (h .nodes) (λ _. b .waiting)
+    (λ i. let low = h .below i in record { are = h .chains i; within = record { onLeft = low .0 .0; onMiddle = low .0 .1; onRight = low .1 } }) (λ _. here-treed s x recs fs (b .treed)) in
     record { nodes = out .nodes; rest = λ small. record { waiting = out .queue small; graph = b .graph; necessities = b .necessities } }
 
 -- the rules at the formula's own world

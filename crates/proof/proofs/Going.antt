@@ -25,6 +25,16 @@ run-none : (F : Flags) (s : State) → run 0 F s ≡ s
 unfolding steps
 run-none F s = refl
 
+-- one step, where one is due
+pub one-stays : (F : Flags) (s : State) → stops s ≡ true → s ≡ run 1 F s
+one-stays F s e = sym (run-stopped 1 F s e)
+
+pub one-step : (F : Flags) (s : State) → stops s ≡ false → step F s ≡ run 1 F s
+one-step F s e = sym (run-next 0 F s e ∙ run-none F (step F s))
+
+pub kept-as : {s z : State} {p : Progress} {fa ta ea ra la va oa wa ca : List ℕ} → s ≡ z → Kept s p fa ta ea ra la va oa wa ca → Kept z p fa ta ea ra la va oa wa ca
+kept-as {p = p} {fa} {ta} {ea} {ra} {la} {va} {oa} {wa} {ca} e = subst (λ (z : State). Kept z p fa ta ea ra la va oa wa ca) e
+
 -- after n of at most 513 steps
 pub record Going (F : Flags) (k : ℕ) (s : State) (n : ℕ) (p : Progress) (fa ta ea ra la va oa wa ca : List ℕ) : Type 0 where
   pub now : State
@@ -39,15 +49,15 @@ module _ {F : Flags} {k : ℕ} {s : State} {n : ℕ} {p : Progress} {fa ta ea ra
   going-start f w a h e = record { now = s; fit = f; watch = w; rooted = a; kept = h; ends = ap (λ (m : ℕ). run (513 - m) F s) e }
 
   pub going-stops : (g : Going F k s n p fa ta ea ra la va oa wa ca) {b : Bool} → b ≡ stops (g .now) → b ≡ true → Kept (run 513 F s) p fa ta ea ra la va oa wa ca
-  going-stops g e t = subst (λ (z : State). Kept z p fa ta ea ra la va oa wa ca) (sym (run-stopped (513 - n) F (g .now) (sym e ∙ t)) ∙ g .ends) (g .kept)
+  going-stops g e t = kept-as (sym (run-stopped (513 - n) F (g .now) (sym e ∙ t)) ∙ g .ends) (g .kept)
 
   pub going-ends : (g : Going F k s n p fa ta ea ra la va oa wa ca) → 513 ≤ n → Kept (run 513 F s) p fa ta ea ra la va oa wa ca
   going-ends g h =
       let e : 513 - n ≡ 0 = omega (arith, h) in
-      subst (λ (z : State). Kept z p fa ta ea ra la va oa wa ca) (sym (run-none F (g .now)) ∙ ap (λ (m : ℕ). run m F (g .now)) (sym e) ∙ g .ends) (g .kept)
+      kept-as (sym (run-none F (g .now)) ∙ ap (λ (m : ℕ). run m F (g .now)) (sym e) ∙ g .ends) (g .kept)
 
   pub going-next : (g : Going F k s n p fa ta ea ra la va oa wa ca) → n < 513 → stops (g .now) ≡ false →
-      {q : Progress} {fb tb eb rb lb vb ob wb cb : List ℕ} → Kept (step F (g .now)) q fb tb eb rb lb vb ob wb cb → Going F k s (n + 1) q fb tb eb rb lb vb ob wb cb
+      {q : Progress} {fb tb eb rb lb vb ob wb cb : List ℕ} → Kept (run 1 F (g .now)) q fb tb eb rb lb vb ob wb cb → Going F k s (n + 1) q fb tb eb rb lb vb ob wb cb
   going-next g h e next =
       let d : 513 - n ≡ suc (513 - (n + 1)) = omega (arith, h) in
       record {
@@ -55,6 +65,6 @@ module _ {F : Flags} {k : ℕ} {s : State} {n : ℕ} {p : Progress} {fa ta ea ra
         fit = fit-step F k (g .now) e (g .fit);
         watch = watch-step F k (g .now) (g .fit) e (g .watch);
         rooted = rooted-step F k (g .now) (g .fit) e (g .rooted);
-        kept = next;
+        kept = kept-as (sym (one-step F (g .now) e)) next;
         ends = sym (run-next (513 - (n + 1)) F (g .now) e) ∙ ap (λ (m : ℕ). run m F (g .now)) (sym d) ∙ g .ends;
       }

@@ -22,7 +22,7 @@ ghost use Prim.Native.Nat.{ℕ, suc, _<_, _≤_};
 ghost use Rattle.definition.specs.Records.{Rec};
 ghost use Rattle.definition.specs.Flags.{Flags};
 ghost use Rattle.definition.specs.Tree.{Node, leaves};
-ghost use Rattle.definition.specs.Run.{State, applyHere, applyRule, checkForContradictions, step, stops, run};
+ghost use Rattle.definition.specs.Run.{State, applyHere, applyRule, checkForContradictions, stops, run};
 ghost use Rattle.definition.proofs.Ready.{Fit};
 ghost use Rattle.definition.proofs.Fresh.{Since, Watch};
 ghost use Rattle.definition.proofs.Spawned.{AllRooted};
@@ -46,7 +46,7 @@ pub struct Progress {
 }
 
 // No step is due.
-pub fn stops(p: Progress) -> bool
+fn stops(p: Progress) -> bool
     ensures { λ r. ⌜ ((s : State) (formulas tree edges rows leaves visited order wait classes : List ℕ) → Kept s p formulas tree edges rows leaves visited order wait classes → r ≡ stops s) ⌝ }
 {
     if 512 < p.nodes {
@@ -194,8 +194,8 @@ pub fn begin(skip: bool, p: Progress, formulas: &[u16; 5120], tree: &mut [u16; 4
     }
 }
 
-// One step, where one is due.
-pub fn step(
+// One step, where one is due; else the state stays.
+fn step(
     logic: NormalModalLogic,
     skip: bool,
     p: Progress,
@@ -209,10 +209,13 @@ pub fn step(
     wait: &mut [u16; 512],
     classes: &mut [u16; 512],
 ) -> Progress
-    ensures { λ r. ⌜ ((F : Flags) (k : ℕ) (s : State) → Flagged F logic skip → Fit F k s → Watch F s → AllRooted s → stops s ≡ false
+    ensures { λ r. ⌜ ((F : Flags) (k : ℕ) (s : State) → Flagged F logic skip → Fit F k s → Watch F s → AllRooted s
         → Kept s p (now (formulas .entry)) (now (tree .entry)) (now (edges .entry)) (now (rows .entry)) (now (leaves .entry)) (now (visited .entry)) (now (order .entry)) (now (wait .entry)) (now (classes .entry))
-        → Kept (step F s) r (now (formulas .exit)) (now (tree .exit)) (now (edges .exit)) (now (rows .exit)) (now (leaves .exit)) (now (visited .exit)) (now (order .exit)) (now (wait .exit)) (now (classes .exit))) ⌝ }
+        → Kept (run 1 F s) r (now (formulas .exit)) (now (tree .exit)) (now (edges .exit)) (now (rows .exit)) (now (leaves .exit)) (now (visited .exit)) (now (order .exit)) (now (wait .exit)) (now (classes .exit))) ⌝ }
 {
+    if stops(p) {
+        return p;
+    }
     match pop(wait, classes, p.waiting) {
         Popped::None => p,
         Popped::Node { id, waiting } => {

@@ -1,16 +1,18 @@
 -- Nodes made one after the other, and the identifiers that they get.
 use Prim.Native.Nat.{ℕ, _+_, _≤_, _<_}
-use mathlib.Core.Path.{_≡_, refl, sym, _∙_, subst}
-use mathlib.Core.List.{List, [], _∷_, _++_, map, reverse, append-assoc, append-nil}
+use mathlib.Core.Path.{_≡_, refl, sym, ap, _∙_, subst}
+use mathlib.Core.List.{List, [], _∷_, _++_, map, reverse, append-assoc, append-nil, map-append}
 use native.Mathlib.Omega.{arith}
 use lib.ListN.{length, length-append, length-map, length-reverse}
 use Rattle.definition.specs.Tree.{Node, newNode, nodeAt}
 use Rattle.definition.specs.Records.{Rec}
 use Rattle.definition.specs.Subtree.{Subtree, withMiddle, withLeftRight, flat, turned, numbered}
 use Rattle.definition.specs.Run.{State, applyHere}
-use Rattle.tree.specs.Chain.{chainOf}
+use Rattle.tree.specs.Chain.{chainOf, emptyChain}
 use Rattle.tree.specs.Lay.{lay, Held, held, tooMany}
-use Rattle.tree.proofs.Nodes.{held-ok, held-fits}
+use Rattle.tree.specs.Sequence.{idAt}
+use Rattle.tree.proofs.Sequence.{id-fits}
+use Rattle.tree.proofs.Nodes.{held-ok, held-fits, held-as}
 use Rattle.rules.specs.declared.AppliedHere.{AppliedHere}
 use Rattle.rules.specs.Here.{withNodes, subtreeOf, inMiddle, inLeftRight, Here}
 
@@ -36,38 +38,65 @@ here-world {ns} {n} {a} {b} {r} x v fs (held h e q) f p = subst (λ (w : ℕ). H
 here-world {ns} {n} {a} {b} {r} x v fs (tooMany h e) f p =
     record {
       nodes = over ns _ _ e (p .nodes);
-      chains = λ g. absurd (omega arith);
-      below = λ g. absurd (omega arith);
+      chains = λ g. absurd (long g);
+      below = λ g. absurd (long g);
     }
+  where
+    long : length (withNodes ns x (nodeAt ns x .world) fs) ≤ 512 → ⊥
+    long g = omega (arith, g, e, length-append ns (map (λ (f : ℕ). newNode x f (nodeAt ns x .world)) (flat (turned fs))))
 
--- ---- the chains
-module _ {ns : List Node} {n : ℕ} {a : List ℕ} {s : ℕ} (x w : ℕ) (has : Held ns n a) (start : n ≤ 512 → s ≡ n) where
-  begins : length ns ≤ 512 → s ≡ length ns
-  begins h = let g = held-fits has h in start g ∙ sym (held-ok has g .0)
+-- ---- the chains: their identifiers were drawn, so they are known where all nodes fit
+module _ {ns : List Node} {n : ℕ} {a : List ℕ} (x w : ℕ) (has : Held ns n a) where
+  abbrev nodes : List ℕ → List Node
+  nodes fs = map (λ f. newNode x f w) (reverse fs)
 
-  pub here-middle : {m : ℕ} {b : List ℕ} {r : AppliedHere} (fs : List ℕ) → Adds n a (map (λ f. newNode x f w) (reverse fs)) m b → r ≡ inMiddle m s (length fs) → Here ns x w (withMiddle fs) r b
+  nodes-length : (fs : List ℕ) → length (ns ++ nodes fs) ≡ length ns + length fs
+  nodes-length fs = simp (length-append, length-map, length-reverse)
+
+  -- the first identifier of nodes that are made where n are issued
+  first : {s : ℕ} → s ≡ idAt n → length ns < 512 → s ≡ length ns
+  first e h = let g = held-fits has (omega (arith, h)) in let k = held-ok has g .0 in e ∙ id-fits n (omega (arith, h, k)) ∙ sym k
+
+  pub here-none : (r : AppliedHere) → r ≡ (record { nodes = n; left = emptyChain; middle = emptyChain; right = emptyChain }) → Here ns x w (withMiddle []) r a
   unfolding flat turned numbered chainOf
-  here-middle {m} {b} fs adds e =
+  here-none r e = rw e record { nodes = held-as (ns ++ []) (sym (append-nil ns)) has; chains = λ h. refl; below = λ h. ((omega arith, omega arith), omega arith) }
+
+  pub here-middle : {m s : ℕ} {b : List ℕ} {r : AppliedHere} (f : ℕ) (fs : List ℕ) → s ≡ idAt n → Adds n a (nodes (f ∷ fs)) m b → r ≡ inMiddle m s (length (f ∷ fs)) → Here ns x w (withMiddle (f ∷ fs)) r b
+  unfolding flat turned numbered chainOf
+  here-middle {m} {s} {b} f rest id adds e =
+      let fs = f ∷ rest in
       let z : length ns + 0 ≡ length ns = omega arith in
-      let t : length (ns ++ map (λ (f : ℕ). newNode x f w) (reverse fs ++ [])) ≡ length ns + length fs = simp (append-nil, length-append, length-map, length-reverse) in
+      let same : nodes fs ≡ map (λ (f : ℕ). newNode x f w) (reverse fs ++ []) = ap (map (λ (f : ℕ). newNode x f w)) (sym (append-nil (reverse fs))) in
+      let t : length (ns ++ map (λ (f : ℕ). newNode x f w) (reverse fs ++ [])) ≡ length ns + length fs = ap (λ (l : List Node). length (ns ++ l)) (sym same) ∙ nodes-length fs in
+      let at : length (ns ++ map (λ (f : ℕ). newNode x f w) (reverse fs ++ [])) ≤ 512 → s ≡ length ns = λ h. first id (omega (arith, h, t)) in
       rw e
       record {
-        nodes = subst (λ (l : List ℕ). Held (ns ++ map (λ (f : ℕ). newNode x f w) l) m b) (sym (append-nil (reverse fs))) (adds ns has);
-        chains = λ h. rw (begins h, z) refl;
-        below = λ h. let g = begins h in ((omega (arith, t), omega (arith, t)), omega (arith, t));
+        nodes = held-as (ns ++ map (λ (f : ℕ). newNode x f w) (reverse fs ++ [])) (ap (λ (l : List Node). ns ++ l) same) (adds ns has);
+        chains = λ h. rw (at h, z) refl;
+        below = λ h. ((omega arith, omega (arith, t, at h)), omega arith);
       }
 
-  pub here-split : {m s2 : ℕ} {b : List ℕ} {r : AppliedHere} (fs gs : List ℕ) → Adds n a (map (λ f. newNode x f w) (reverse fs ++ reverse gs)) m b → s2 ≡ s + length fs → length gs ≡ length fs
-      → r ≡ inLeftRight m s s2 (length fs) → Here ns x w (withLeftRight fs gs) r b
+  pub here-split : {k m s s2 : ℕ} {b c : List ℕ} {r : AppliedHere} (f : ℕ) (fs gs : List ℕ) → length gs ≡ length (f ∷ fs) → s ≡ idAt n → s2 ≡ idAt k
+      → Adds n a (nodes (f ∷ fs)) k b → Adds k b (map (λ f. newNode x f w) (reverse gs)) m c
+      → r ≡ inLeftRight m s s2 (length (f ∷ fs)) → Here ns x w (withLeftRight (f ∷ fs) gs) r c
   unfolding flat turned numbered chainOf
-  here-split fs gs adds d k e =
+  here-split {k} {m} {s} {s2} f rest gs same id id2 adds more e =
+      let fs = f ∷ rest in
       let z : (length ns + length fs) + 0 ≡ length ns + length fs = omega arith in
-      let t : length (ns ++ map (λ (f : ℕ). newNode x f w) (reverse fs ++ reverse gs)) ≡ length ns + (length fs + length gs) = simp (length-append, length-map, length-reverse) in
+      let both = map (λ (f : ℕ). newNode x f w) (reverse fs ++ reverse gs) in
+      let parts : nodes fs ++ map (λ (f : ℕ). newNode x f w) (reverse gs) ≡ both = sym (map-append (λ (f : ℕ). newNode x f w) (reverse fs) (reverse gs)) in
+      let t : length (ns ++ both) ≡ length ns + (length fs + length gs) = simp (length-append, length-map, length-reverse) in
+      let half = nodes-length fs in
+      let left : length (ns ++ both) ≤ 512 → s ≡ length ns = λ h. first id (omega (arith, h, t)) in
+      let right : length (ns ++ both) ≤ 512 → s2 ≡ length ns + length fs = λ h.
+      (let g = held-fits (adds ns has) (omega (arith, h, t, half)) in
+      let j = held-ok (adds ns has) g .0 in
+      id2 ∙ id-fits k (omega (arith, h, t, half, j, same)) ∙ sym j ∙ half) in
       rw e
       record {
-        nodes = adds ns has;
-        chains = λ h. rw (d, begins h, z, k) refl;
-        below = λ h. let g = begins h in ((omega (arith, t), omega (arith, t)), omega (arith, t));
+        nodes = held-as (ns ++ both) (ap (λ (l : List Node). ns ++ l) parts) (adds-both (nodes fs) (map (λ (f : ℕ). newNode x f w) (reverse gs)) adds more ns has);
+        chains = λ h. rw (right h, left h, z, same) refl;
+        below = λ h. ((omega (arith, t, left h), omega arith), omega (arith, t, right h, same));
       }
 
 -- ---- `applyHere` by these names
@@ -76,7 +105,7 @@ module _ (s : State) (x : ℕ) (more : List Rec) (fs : Subtree) where
   unfolding applyHere
   here-nodes = refl
 
-  pub here-subtrees : {a : List ℕ} {r : AppliedHere} → Here (s .nodes) x (nodeAt (s .nodes) x .world) fs r a → length (s .nodes) ≤ 512
+  pub here-subtrees : {a : List ℕ} {r : AppliedHere} → Here (s .nodes) x (nodeAt (s .nodes) x .world) fs r a → length (withNodes (s .nodes) x (nodeAt (s .nodes) x .world) fs) ≤ 512
       → applyHere s x more fs .subtrees ≡ record { target = x; subtree = subtreeOf r } ∷ []
   unfolding applyHere
   here-subtrees p h = rw (p .chains h) refl

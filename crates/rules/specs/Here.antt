@@ -1,14 +1,12 @@
 -- The nodes of a rule at its formula's own world.
 use Prim.Native.Nat.{ℕ, _≤_}
 use mathlib.Core.Path.{_≡_}
-use mathlib.Core.Bool.{false}
 use mathlib.Core.List.{List, [], _++_, map}
 use lib.ListN.{length}
 use Rattle.definition.specs.Rules.{Rule, nothing, down, split, asPossible, asNecessary}
 use Rattle.definition.specs.Tree.{Node, newNode}
 use Rattle.definition.specs.Subtree.{Subtree, withMiddle, withLeftRight, flat, turned, numbered}
-use Rattle.tree.specs.declared.Chain.{Chain}
-use Rattle.tree.specs.Chain.{chainOf, Below}
+use Rattle.tree.specs.Chain.{chainOf, fallingChain, emptyChain, Below}
 use Rattle.tree.specs.Lay.{Held}
 use Rattle.rules.specs.declared.AppliedHere.{AppliedHere}
 
@@ -28,20 +26,16 @@ withNodes ns x w fs = ns ++ map (λ f. newNode x f w) (flat (turned fs))
 abbrev pub subtreeOf : AppliedHere → Subtree
 subtreeOf r = record { left = chainOf (r .left); middle = chainOf (r .middle); right = chainOf (r .right) }
 
--- `count` identifiers from `start` on, made from the bottom up
-abbrev pub falling : ℕ → ℕ → Chain
-falling start count = record { start = start; count = count; rising = false }
-
--- one chain in the middle; a left and a right chain, as many in each
+-- one chain in the middle, made from the bottom up; a left and a right chain, as many in each
 abbrev pub inMiddle : ℕ → ℕ → ℕ → AppliedHere
-inMiddle nodes start count = record { nodes = nodes; left = falling start 0; middle = falling start count; right = falling start 0 }
+inMiddle nodes start count = record { nodes = nodes; left = emptyChain; middle = fallingChain start count; right = emptyChain }
 
 abbrev pub inLeftRight : ℕ → ℕ → ℕ → ℕ → AppliedHere
-inLeftRight nodes left right count = record { nodes = nodes; left = falling left count; middle = falling left 0; right = falling right count }
+inLeftRight nodes left right count = record { nodes = nodes; left = fallingChain left count; middle = emptyChain; right = fallingChain right count }
 
--- the table holds the nodes and those of the formulas; the chains are theirs and no identifier is beyond them, unless there were too many nodes before
+-- the table holds the nodes and those of the formulas; where all fit, the chains are theirs, and no identifier is beyond them
 pub record Here (ns : List Node) (x w : ℕ) (fs : Subtree) (r : AppliedHere) (a : List ℕ) : Type 0 where
   pub nodes : Held (withNodes ns x w fs) (r .nodes) a
-  pub chains : length ns ≤ 512 → subtreeOf r ≡ turned (numbered (length ns) fs)
-  pub below : length ns ≤ 512 →
+  pub chains : length (withNodes ns x w fs) ≤ 512 → subtreeOf r ≡ turned (numbered (length ns) fs)
+  pub below : length (withNodes ns x w fs) ≤ 512 →
       (Below (r .left) (length (withNodes ns x w fs)) × Below (r .middle) (length (withNodes ns x w fs))) × Below (r .right) (length (withNodes ns x w fs))

@@ -3,6 +3,7 @@
 use formula::FormulaNumber;
 use graph::PossibleWorld;
 use tree::Chain;
+use tree::Issued;
 use tree::ProofTreeNodeID;
 ghost use mathlib.Core.Path.{_≡_};
 ghost use mathlib.Core.List.{List, [], _∷_, _++_};
@@ -15,6 +16,7 @@ ghost use Rattle.definition.specs.Rules.{Expansion, expansion, nonExpansion};
 ghost use Rattle.definition.specs.Tree.{Node, newNode, nodeAt};
 ghost use Rattle.definition.specs.Subtree.{withMiddle, withLeftRight};
 ghost use Rattle.tree.specs.Lay.{Held};
+ghost use Rattle.tree.specs.Sequence.{idAt};
 ghost use Rattle.rules.specs.Choice.{logicRule, ruled};
 ghost use Rattle.rules.specs.Consequences.{consequenceOf};
 ghost use Rattle.rules.specs.Expands.{saidExpansion, expansionOf, Expands};
@@ -57,7 +59,7 @@ pub struct Expanded {
     pub rule: Consequence,
 }
 
-pub fn rule_of(outer: u16, inner: u16) -> LogicRule
+fn rule_of(outer: u16, inner: u16) -> LogicRule
     ensures { λ r. ⌜ r ≡ logicRule outer inner ⌝ }
 {
     match outer {
@@ -303,14 +305,22 @@ pub struct AppliedHere {
     pub right: Chain,
 }
 
-fn with_middle_node(nodes: usize, start: u16, count: u16) -> AppliedHere
-    ensures { λ r. ⌜ r ≡ inMiddle nodes start count ⌝ }
+// No node.
+fn without_node(nodes: usize) -> AppliedHere
+    ensures { λ r. ⌜ ((ns : List Node) (x w : ℕ) (a : List ℕ) → Held ns nodes a → Here ns x w (withMiddle []) r a) ⌝ }
 {
-    let none = Chain {
-        start,
-        count: 0,
-        rising: false,
-    };
+    AppliedHere {
+        nodes,
+        left: Chain::EMPTY,
+        middle: Chain::EMPTY,
+        right: Chain::EMPTY,
+    }
+}
+
+// One chain in the middle: `count` identifiers from `start` on, the last on top.
+fn with_middle_node(nodes: usize, start: ProofTreeNodeID, count: u16) -> AppliedHere
+    ensures { λ r. ⌜ r ≡ inMiddle nodes (start .0) count ⌝ }
+{
     let middle = Chain {
         start,
         count,
@@ -318,24 +328,24 @@ fn with_middle_node(nodes: usize, start: u16, count: u16) -> AppliedHere
     };
     AppliedHere {
         nodes,
-        left: none,
+        left: Chain::EMPTY,
         middle,
-        right: none,
+        right: Chain::EMPTY,
     }
 }
 
 // Two chains of as many identifiers: the left from `start` on, the right from `further` on.
-fn with_left_right_nodes(nodes: usize, start: u16, further: u16, count: u16) -> AppliedHere
-    ensures { λ r. ⌜ r ≡ inLeftRight nodes start further count ⌝ }
+fn with_left_right_nodes(
+    nodes: usize,
+    start: ProofTreeNodeID,
+    further: ProofTreeNodeID,
+    count: u16,
+) -> AppliedHere
+    ensures { λ r. ⌜ r ≡ inLeftRight nodes (start .0) (further .0) count ⌝ }
 {
     let left = Chain {
         start,
         count,
-        rising: false,
-    };
-    let none = Chain {
-        start,
-        count: 0,
         rising: false,
     };
     let right = Chain {
@@ -346,22 +356,12 @@ fn with_left_right_nodes(nodes: usize, start: u16, further: u16, count: u16) -> 
     AppliedHere {
         nodes,
         left,
-        middle: none,
+        middle: Chain::EMPTY,
         right,
     }
 }
 
-// The next identifier; 0 where there is none.
-fn next_id(len: usize) -> u16
-    ensures { λ r. ⌜ (r ≤ 512) × (len ≤ 512 → r ≡ len) ⌝ }
-{
-    if 512 < len {
-        return 0;
-    }
-    len as u16
-}
-
-// A node and the one below it, which gets its identifier first.
+// A node and the one below it, which gets its identifier first: that identifier, and the count after both.
 fn new_node_with_subnode(
     tree: &mut [u16; 4608],
     len: usize,
@@ -369,11 +369,13 @@ fn new_node_with_subnode(
     w: PossibleWorld,
     formula: FormulaNumber,
     child: FormulaNumber,
-) -> usize
-    ensures { λ r. ⌜ ((ns : List Node) → Held ns len (now (tree .entry)) → Held (ns ++ (newNode (x .0) (child .0) (w .0) ∷ newNode (x .0) (formula .0) (w .0) ∷ [])) r (now (tree .exit))) ⌝ }
+) -> Issued
+    ensures { λ r. ⌜ (r .id .0 ≡ idAt len) × ((ns : List Node) → Held ns len (now (tree .entry)) → Held (ns ++ (newNode (x .0) (child .0) (w .0) ∷ newNode (x .0) (formula .0) (w .0) ∷ [])) (r .len) (now (tree .exit))) ⌝ }
 {
-    let after = tree::new_node(tree, len, x, child, w);
-    tree::new_node(tree, after, x, formula, w)
+    let below = tree::new_node(tree, len, x, child, w);
+    let above = tree::new_node(tree, below.len, x, formula, w);
+    let id = below.id;
+    Issued { id, len: above.len }
 }
 
 fn down_one(
@@ -385,9 +387,9 @@ fn down_one(
 ) -> AppliedHere
     ensures { λ r. ⌜ ((ns : List Node) → Held ns len (now (tree .entry)) → Here ns (x .0) (w .0) (withMiddle (p .0 ∷ [])) r (now (tree .exit))) ⌝ }
 {
-    let start = next_id(len);
-    let after = tree::new_node(tree, len, x, p, w);
-    with_middle_node(after, start, 1)
+    let drawn = tree::new_node(tree, len, x, p, w);
+    let id = drawn.id;
+    with_middle_node(drawn.len, id, 1)
 }
 
 fn down_two(
@@ -400,9 +402,9 @@ fn down_two(
 ) -> AppliedHere
     ensures { λ r. ⌜ ((ns : List Node) → Held ns len (now (tree .entry)) → Here ns (x .0) (w .0) (withMiddle (p .0 ∷ q .0 ∷ [])) r (now (tree .exit))) ⌝ }
 {
-    let start = next_id(len);
-    let after = new_node_with_subnode(tree, len, x, w, p, q);
-    with_middle_node(after, start, 2)
+    let drawn = new_node_with_subnode(tree, len, x, w, p, q);
+    let id = drawn.id;
+    with_middle_node(drawn.len, id, 2)
 }
 
 fn split_one(
@@ -415,10 +417,11 @@ fn split_one(
 ) -> AppliedHere
     ensures { λ r. ⌜ ((ns : List Node) → Held ns len (now (tree .entry)) → Here ns (x .0) (w .0) (withLeftRight (p .0 ∷ []) (q .0 ∷ [])) r (now (tree .exit))) ⌝ }
 {
-    let start = next_id(len);
     let left = tree::new_node(tree, len, x, p, w);
-    let right = tree::new_node(tree, left, x, q, w);
-    with_left_right_nodes(right, start, start + 1, 1)
+    let right = tree::new_node(tree, left.len, x, q, w);
+    let start = left.id;
+    let further = right.id;
+    with_left_right_nodes(right.len, start, further, 1)
 }
 
 // The left chain is p above q, the right one s above t.
@@ -434,10 +437,11 @@ fn split_two(
 ) -> AppliedHere
     ensures { λ r. ⌜ ((ns : List Node) → Held ns len (now (tree .entry)) → Here ns (x .0) (w .0) (withLeftRight (p .0 ∷ q .0 ∷ []) (s .0 ∷ t .0 ∷ [])) r (now (tree .exit))) ⌝ }
 {
-    let start = next_id(len);
     let left = new_node_with_subnode(tree, len, x, w, p, q);
-    let right = new_node_with_subnode(tree, left, x, w, s, t);
-    with_left_right_nodes(right, start, start + 2, 2)
+    let right = new_node_with_subnode(tree, left.len, x, w, s, t);
+    let start = left.id;
+    let further = right.id;
+    with_left_right_nodes(right.len, start, further, 2)
 }
 
 // The nodes of a rule at the world of node x; none for a rule of the two modal kinds.
@@ -451,12 +455,12 @@ pub fn apply_here(
 {
     let w = tree::world_of(tree, x);
     match rule {
-        Consequence::Nothing => with_middle_node(len, next_id(len), 0),
+        Consequence::Nothing => without_node(len),
         Consequence::Down1(p) => down_one(tree, len, x, w, p),
         Consequence::Down2(p, q) => down_two(tree, len, x, w, p, q),
         Consequence::Split1(p, q) => split_one(tree, len, x, w, p, q),
         Consequence::Split2(p, q, s, t) => split_two(tree, len, x, w, p, q, s, t),
-        Consequence::AsPossible(_) => with_middle_node(len, next_id(len), 0),
-        Consequence::AsNecessary(_) => with_middle_node(len, next_id(len), 0),
+        Consequence::AsPossible(_) => without_node(len),
+        Consequence::AsNecessary(_) => without_node(len),
     }
 }

@@ -23,37 +23,33 @@ use Rattle.tree.proofs.Chains.{chain-length, chain-up, chain-down}
 abbrev run : Bool → ℕ → ℕ → List ℕ
 run b n s = cond b (upFrom n s) (reverse (upFrom n s))
 
-pub rising-chain : (c : Chain) → c .rising ≡ true → chainOf c ≡ upFrom (c .count) (c .start)
-unfolding chainOf
-rising-chain c e = ap (λ (b : Bool). run b (c .count) (c .start)) e
-
-pub turned-chain : (c d : Chain) → d .rising ≡ not (c .rising) → d .start ≡ c .start → d .count ≡ c .count → chainOf d ≡ reverse (chainOf c)
+pub turned-chain : (c d : Chain) → d .rising ≡ not (c .rising) → d .start .0 ≡ c .start .0 → d .count ≡ c .count → chainOf d ≡ reverse (chainOf c)
 unfolding chainOf
 turned-chain c d e s n =
-    ap (λ (b : Bool). run b (d .count) (d .start)) e
-    ∙ ap (λ (k : ℕ). run (not (c .rising)) k (d .start)) n
+    ap (λ (b : Bool). run b (d .count) (d .start .0)) e
+    ∙ ap (λ (k : ℕ). run (not (c .rising)) k (d .start .0)) n
     ∙ ap (λ (k : ℕ). run (not (c .rising)) (c .count) k) s
     ∙ go (c .rising)
   where
-    go : (b : Bool) → run (not b) (c .count) (c .start) ≡ reverse (run b (c .count) (c .start))
+    go : (b : Bool) → run (not b) (c .count) (c .start .0) ≡ reverse (run b (c .count) (c .start .0))
     go true = refl
-    go false = sym (reverse-reverse (upFrom (c .count) (c .start)))
+    go false = sym (reverse-reverse (upFrom (c .count) (c .start .0)))
 
 pub chain-each : (c : Chain) {m : ℕ} → Below c m → Each (λ x. x < m) (chainOf c)
 unfolding chainOf
 chain-each c {m} below = go (c .rising)
   where
-    up : Each (λ x. x < m) (upFrom (c .count) (c .start))
-    up = each-map (λ x (h : (c .start ≤ x) × (x < c .start + c .count)). omega (arith, h .1, below)) (upFrom (c .count) (c .start)) (upFrom-each (c .count) (c .start))
+    up : Each (λ x. x < m) (upFrom (c .count) (c .start .0))
+    up = each-map (λ x (h : (c .start .0 ≤ x) × (x < c .start .0 + c .count)). omega (arith, h .1, below)) (upFrom (c .count) (c .start .0)) (upFrom-each (c .count) (c .start .0))
 
-    go : (b : Bool) → Each (λ x. x < m) (run b (c .count) (c .start))
+    go : (b : Bool) → Each (λ x. x < m) (run b (c .count) (c .start .0))
     go true = up
-    go false = each-reverse (λ x. x < m) (upFrom (c .count) (c .start)) up
+    go false = each-reverse (λ x. x < m) (upFrom (c .count) (c .start .0)) up
 
-chain-bound : (c : Chain) (k : ℕ) → k < c .count → getD (chainOf c) k 0 < c .start + c .count
+chain-bound : (c : Chain) (k : ℕ) → k < c .count → getD (chainOf c) k 0 < c .start .0 + c .count
 chain-bound c k h = go (c .rising) refl
   where
-    go : (b : Bool) → c .rising ≡ b → getD (chainOf c) k 0 < c .start + c .count
+    go : (b : Bool) → c .rising ≡ b → getD (chainOf c) k 0 < c .start .0 + c .count
     go true e = omega (arith, chain-up c k e h)
     go false e = omega (arith, chain-down c k e h)
 

@@ -19,26 +19,26 @@ use Rattle.tree.specs.Lay.{lay, Held, tooMany}
 use Rattle.tree.proofs.Nodes.{held-ok, held-fits, held-same, held-long}
 use Rattle.subtree.specs.declared.ProofSubtree.{ProofSubtree}
 use Rattle.subtree.specs.declared.Counts.{Counts}
-use Rattle.subtree.specs.Subtree.{subtreeOf, Within, Left}
+use Rattle.subtree.specs.declared.IssuedSubtree.{IssuedSubtree}
+use Rattle.subtree.specs.Subtree.{subtreeOf, Within, Chained, Attached, Left}
 use Rattle.subtree.proofs.Chains.{more}
-use Rattle.subtree.proofs.Subtrees.{size-of, Attached, within-more}
+use Rattle.subtree.proofs.Subtrees.{size-of, within-more}
 
 -- ---- a copy below one leaf
-pub copy-placed : (s t : ProofSubtree) (ns : List Node) (q : List ℕ) (y : ℕ) {len n m w : ℕ} {a a₁ a₂ b b′ : List ℕ} → Held ns len a → (len ≤ 512 → Listed q n b) → Within s (length ns)
-    → ((ms : List Node) → Held ms len a → Within s (length ms) → Held (more ms (flat (subtreeOf s))) m a₁)
-    → ((ms : List Node) (u : List ℕ) → Held ms len u → Within s (length ms) → Attached s t (length ms))
-    → ((ms : List Node) → Held ms m a₁ → Within t (length ms) → Held (appendSubtreeOnLeaf ms y (subtreeOf t)) m a₂)
-    → ((l : List ℕ) → Listed l n b → Within t 512 → Listed (pushSubtree l (subtreeOf t)) w b′)
-    → Left (appendCopies ns q (y ∷ []) (subtreeOf s)) (record { nodes = m; waiting = w }) a₂ b′
+pub copy-placed : (s : ProofSubtree) (t : IssuedSubtree) (ns : List Node) (q : List ℕ) (y : ℕ) {len n w : ℕ} {a a₁ a₂ b b′ : List ℕ} → Held ns len a → (len ≤ 512 → Listed q n b) → Within s (length ns)
+    → ((ms : List Node) → Held ms len a → Within s (length ms) → Attached ms s t a₁)
+    → ((ms : List Node) → Held ms (t .len) a₁ → (length ms ≤ 512 → Within (t .subtree) (length ms)) → Held (appendSubtreeOnLeaf ms y (subtreeOf (t .subtree))) (t .len) a₂)
+    → ((l : List ℕ) → Listed l n b → Within (t .subtree) 512 → Listed (pushSubtree l (subtreeOf (t .subtree))) w b′)
+    → Left (appendCopies ns q (y ∷ []) (subtreeOf s)) (record { nodes = t .len; waiting = w }) a₂ b′
 unfolding appendCopies
-copy-placed s t ns q y {len} {n} {m} {w} {a} {a₁} {a₂} {b} {b′} p f i copies attaches hangs pushes =
+copy-placed s t ns q y {len} {n} {w} {a} {a₁} {a₂} {b} {b′} p f i attaches hangs pushes =
     record {
       nodes =
-          held-same (appendSubtreeOnLeaf u y new) (hangs u here (subst (λ (k : ℕ). Within t k) (sym grown) (ids .0)))
-          (length-leaf u y (subtreeOf t) ∙ sym (length-leaf u y new)) (λ h. ap (λ (x : Subtree). lay (appendSubtreeOnLeaf u y x)) (ids .1 (short h)));
+          held-same (appendSubtreeOnLeaf u y new) (hangs u here (λ h. let g = held-fits here h in within-more (t .subtree) (omega (arith, held-ok here g .0)) (copies .chains g .within)))
+          (length-leaf u y (subtreeOf (t .subtree)) ∙ sym (length-leaf u y new)) (λ h. ap (λ (x : Subtree). lay (appendSubtreeOnLeaf u y x)) (copies .chains h .are));
       queue = λ h.
-          subst (λ (x : Subtree). Listed (pushSubtree q x) w b′) (ids .1 (short h))
-          (pushes q (f (held-fits p (omega (arith, short h)))) (within-more t (short h) (ids .0)));
+          subst (λ (x : Subtree). Listed (pushSubtree q x) w b′) (copies .chains h .are)
+          (pushes q (f (held-fits p (omega (arith, held-ok here h .0, h, length-append ns (map (copied ns) (flat (subtreeOf s))))))) (within-more (t .subtree) h (copies .chains h .within)));
     }
   where
     new : Subtree
@@ -47,17 +47,11 @@ copy-placed s t ns q y {len} {n} {m} {w} {a} {a₁} {a₂} {b} {b′} p f i copi
     u : List Node
     u = more ns (flat (subtreeOf s))
 
-    here : Held (more ns (flat (subtreeOf s))) m a₁
-    here = copies ns p i
+    copies : Attached ns s t a₁
+    copies = attaches ns p i
 
-    grown : length (more ns (flat (subtreeOf s))) ≡ length ns + length (flat (subtreeOf s))
-    grown = omega (arith, length-append ns (map (copied ns) (flat (subtreeOf s))), length-map (flat (subtreeOf s)) (copied ns))
-
-    ids : Attached s t (length ns)
-    ids = attaches ns a p i
-
-    short : m ≤ 512 → length ns + length (flat (subtreeOf s)) ≤ 512
-    short h = omega (arith, held-ok here h .0, grown)
+    here : Held (more ns (flat (subtreeOf s))) (t .len) a₁
+    here = copies .nodes
 
 -- ---- the loop of `append_copies`: the copies for the leaves that are left lead to the goal
 pub record Copying (goal : Placed) (s : ProofSubtree) (rest : List ℕ) (low : ℕ) (r : Counts) (a w : List ℕ) : Type 0 where
@@ -207,11 +201,15 @@ pub found-takers : (target : ℕ) (ns : List Node) {len m : ℕ} {a found : List
 found-takers target ns p h r f = let o = held-ok p h in f ns (r (omega (arith, o .0, h))) (o .0) h (o .1) listed-none
 
 -- ---- the ways out of `append_subtree`
-module _ (s : ProofSubtree) (target : ℕ) (ns : List Node) (q : List ℕ) where
-  pub subtree-full : {len n : ℕ} {a w : List ℕ} → 512 < len → Held ns len a → Left (appendSubtree ns q target (subtreeOf s)) (record { nodes = len; waiting = n }) a w
-  subtree-full h p =
-      record { nodes = held-long (appendSubtree ns q target (subtreeOf s) .nodes) p h (ext-subtree ns q target (subtreeOf s) .longer); queue = λ g. absurd (omega arith) }
+pub subtree-full : (t : Subtree) (target : ℕ) (ns : List Node) (q : List ℕ) {len n : ℕ} {a w : List ℕ} → 512 < len → Held ns len a → Left (appendSubtree ns q target t) (record { nodes = len; waiting = n }) a w
+subtree-full t target ns q h p = record { nodes = held-long (appendSubtree ns q target t .nodes) p h (ext-subtree ns q target t .longer); queue = λ g. absurd (omega arith) }
 
+-- what the chains of s give is what t gives
+pub subtree-as : (s : ProofSubtree) (t : Subtree) (target : ℕ) (ns : List Node) (q : List ℕ) {len : ℕ} {a : List ℕ} {r : Counts} {b w : List ℕ} → Held ns len a → len ≤ 512 → (length ns ≤ 512 → Chained s t (length ns))
+    → (Within s (length ns) → Left (appendSubtree ns q target (subtreeOf s)) r b w) → Left (appendSubtree ns q target t) r b w
+subtree-as s t target ns q {r = r} {b} {w} p h c f = let k = c (omega (arith, held-ok p h .0, h)) in subst (λ (x : Subtree). Left (appendSubtree ns q target x) r b w) (k .are) (f (k .within))
+
+module _ (s : ProofSubtree) (target : ℕ) (ns : List Node) (q : List ℕ) where
   pub subtree-none : {len n : ℕ} {a w : List ℕ} → length (flat (subtreeOf s)) ≡ 0 → Held ns len a → (len ≤ 512 → Listed q n w)
       → Left (appendSubtree ns q target (subtreeOf s)) (record { nodes = len; waiting = n }) a w
   subtree-none e p f =

@@ -3,6 +3,7 @@ use Prim.Native.Nat.{ℕ, zero, suc, _+_, _*_, _<_, _≤_}
 use mathlib.Core.Path.{_≡_, refl, sym, ap, _∙_, subst}
 use mathlib.Core.Bool.{Bool, true, false, cond, not}
 use mathlib.Core.List.{List, [], _∷_, _++_, map, append-assoc, append-nil}
+use mathlib.Core.Logic.{_⊎_, inl, inr}
 use native.Mathlib.Omega.{arith}
 use native.Mathlib.Nat.{pos-of-ne-zero}
 use native.Mathlib.Numerals.{add-one}
@@ -20,11 +21,13 @@ use Rattle.definition.proofs.Nodes.{ext-subtree, ext-result}
 use Rattle.definition.proofs.Issued.{length-from}
 use Rattle.definition.proofs.Treed.{Treed}
 use Rattle.definition.proofs.Growing.{Steady}
+use Rattle.tree.specs.declared.Chain.{Chain}
+use Rattle.tree.specs.Chain.{Spans}
 use Rattle.tree.specs.Lay.{Held}
 use Rattle.tree.proofs.Nodes.{held-ok, held-long}
 use Rattle.subtree.specs.declared.ProofSubtree.{ProofSubtree}
 use Rattle.subtree.specs.declared.Counts.{Counts}
-use Rattle.subtree.specs.Subtree.{subtreeOf, Within, Left}
+use Rattle.subtree.specs.Subtree.{subtreeOf, Within, Chained, Left}
 use Rattle.subtree.specs.Rows.{Row, Rows, rows, tooMany, cells, filled, itemFrom}
 use Rattle.subtree.proofs.Subtrees.{within-more}
 use Rattle.subtree.proofs.Placing.{left-as, subtree-nothing}
@@ -132,6 +135,29 @@ module _ {rs : List Row} {n m : ℕ} {a : List ℕ} (r : Row) (h : m ≤ r .star
       (each-append (λ (v : Row). v .start + v .count ≤ r .start + r .count) ss (r ∷ [])
       (each-map (λ v (o : v .start + v .count ≤ m). omega (arith, o, h)) ss w) (omega arith, tt))
 
+-- a row for identifiers that were drawn
+module _ {rs : List Row} {n lo hi : ℕ} {a : List ℕ} {c : Chain} (target : ℕ) (s : Spans c lo hi) (p : Rows rs n a lo) where
+  abbrev drawn : Row
+  drawn = record { target = target; start = lo; count = c .count }
+
+  ended : {k : ℕ} {b : List ℕ} → Rows (rs ++ (drawn ∷ [])) k b (lo + c .count) → Rows (rs ++ (drawn ∷ [])) k b hi
+  ended {k} {b} = subst (λ (m : ℕ). Rows (rs ++ (drawn ∷ [])) k b m) (s .ends)
+
+  pub drawn-none : c .count ≡ 0 → Rows (rs ++ (drawn ∷ [])) n a hi
+  drawn-none z = ended (rows-skip drawn (omega arith) z p)
+
+  pub drawn-over : {b : List ℕ} → (c .count ≡ 0 → ⊥) → 512 ≤ n → Rows (rs ++ (drawn ∷ [])) 513 b hi
+  drawn-over z g = ended (rows-over drawn (omega arith) z g p)
+
+  pub drawn-push : (c .count ≡ 0 → ⊥) → n < 512 → Rows (rs ++ (drawn ∷ [])) (n + 1) (set (set (set a (n * 3) target) (n * 3 + 1) (c .start .0)) (n * 3 + 2) (c .count)) hi
+  drawn-push z g =
+      subst (λ (x : ℕ). Rows (rs ++ (drawn ∷ [])) (n + 1) (set (set (set a (n * 3) target) (n * 3 + 1) x) (n * 3 + 2) (c .count)) hi) (starts (s .begins))
+      (ended (rows-push drawn (omega arith) z g p))
+    where
+      starts : (c .count ≡ 0) ⊎ (c .start .0 ≡ lo) → lo ≡ c .start .0
+      starts (inl e) = absurd (z e)
+      starts (inr e) = sym e
+
 -- ---- reads
 abbrev noRow : Row
 noRow = record { target = 0; start = 0; count = 0 }
@@ -205,12 +231,12 @@ pub joining-next : {goal : Placed} {low n : ℕ} {r r′ : Counts} {a a′ w w�
     → k < n → low ≤ 512 → Rows rs n items low → Reads items k 0 x → Reads items k 1 u → Reads items k 2 v
     → (subtreeOf s ≡ withMiddle (upFrom v u)) × ((m : ℕ) → u + v ≤ m → Within s m)
     → Joining goal (drop k (filled rs)) low r a w
-    → ((ns : List Node) (q : List ℕ) → Held ns (r .nodes) a → (r .nodes ≤ 512 → Listed q (r .waiting) w) → Within s (length ns) → (length ns ≤ 512 → Treed ns) → Left (appendSubtree ns q x (subtreeOf s)) r′ a′ w′)
+    → ((ns : List Node) (q : List ℕ) (t : Subtree) → Held ns (r .nodes) a → (r .nodes ≤ 512 → Listed q (r .waiting) w) → (length ns ≤ 512 → Chained s t (length ns)) → (length ns ≤ 512 → Treed ns) → Left (appendSubtree ns q x t) r′ a′ w′)
     → Joining goal (drop (k + 1) (filled rs)) low r′ a′ w′
 joining-next {goal} {low} {n} rs k s x u v h g t ex eu ev b c f =
     record {
       so-far = appendSubtree ns q x (subtreeOf s);
-      here = f ns q (c .here .nodes) (c .here .queue) (within-more s (c .longer) (b .1 low (omega (arith, qu, qv, row-below g k h t)))) (steady .0);
+      here = f ns q (subtreeOf s) (c .here .nodes) (c .here .queue) (λ _. record { are = refl; within = within-more s (c .longer) (b .1 low (omega (arith, qu, qv, row-below g k h t))) }) (steady .0);
       longer = omega (arith, c .longer, ext-subtree ns q x (subtreeOf s) .longer);
       same = sym (result-cons ns q x (subtreeOf s) (map itemFrom (drop (k + 1) ss))) ∙ ap (appendLogicRuleResult ns q) (sym rest-is) ∙ c .same;
       steady = steady .1;

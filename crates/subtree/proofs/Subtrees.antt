@@ -3,7 +3,7 @@ use Prim.Native.Nat.{ℕ, _+_, _<_, _≤_}
 use mathlib.Core.Path.{_≡_, refl, sym, ap, _∙_, subst}
 use mathlib.Core.List.{List, [], _∷_, _++_, map, reverse, append-assoc, map-append}
 use native.Mathlib.Omega.{arith}
-use lib.ListN.{length, length-append}
+use lib.ListN.{length, length-append, length-map}
 use Rattle.arrays.specs.Listed.{Listed}
 use Rattle.definition.specs.Lists.{upFrom, Each}
 use Rattle.definition.specs.Tree.{Node, Place, Left, Middle, Right, newNode, linkChain}
@@ -11,11 +11,12 @@ use Rattle.definition.specs.Subtree.{Subtree, flat, turned, numbered, copied, w
 use Rattle.definition.proofs.Nodes.{length-chain, length-leaf, node-append}
 use Rattle.tree.specs.Lay.{placeCode, Held, held, tooMany}
 use Rattle.tree.specs.declared.Chain.{Chain}
-use Rattle.tree.specs.Chain.{chainOf, Below}
+use Rattle.tree.specs.declared.IssuedChain.{IssuedChain}
+use Rattle.tree.specs.Chain.{chainOf, risingChain, emptyChain, Below, Spans, DrawnFrom}
 use Rattle.tree.proofs.Nodes.{held-ok, held-as}
-use Rattle.tree.proofs.Chains.{chain-length}
+use Rattle.tree.proofs.Chains.{chain-length, spans-below, spans-chain}
 use Rattle.subtree.specs.declared.ProofSubtree.{ProofSubtree}
-use Rattle.subtree.specs.Subtree.{subtreeOf, Within}
+use Rattle.subtree.specs.Subtree.{subtreeOf, Within, Attached}
 use Rattle.subtree.proofs.Chains.{more, chain-each}
 
 pub size-of : (s : ProofSubtree) → length (flat (subtreeOf s)) ≡ s .left .count + s .middle .count + s .right .count
@@ -70,22 +71,25 @@ copied-all s ns p w f g h =
     (h u (g t (f ns p (w .onLeft)) (omega (arith, w .onMiddle))) (omega (arith, w .onRight)))
 
 -- ---- numbered anew
-abbrev pub Attached : ProofSubtree → ProofSubtree → ℕ → Type 0
-Attached s r n = Within r (n + length (flat (subtreeOf s))) × (n + length (flat (subtreeOf s)) ≤ 512 → subtreeOf r ≡ numbered n (subtreeOf s))
+-- a copy's chain, whose identifiers were drawn after n were issued
+module _ (ns : List Node) (c : Chain) {n : ℕ} {a b : List ℕ} (r : IssuedChain) (p : Held ns n a) (q : Held (more ns (chainOf c)) (r .len) b) (d : DrawnFrom n r) (small : r .len ≤ 512) where
+  copy-spans : Spans (r .chain) n (r .len)
+  copy-spans = d small
 
-pub attach-full : (s : ProofSubtree) {ns : List Node} {len : ℕ} {a : List ℕ} → 512 < len → Held ns len a → Within s (length ns) → Attached s s (length ns)
-attach-full s h (held b e q) w = absurd (omega arith)
-attach-full s h (tooMany b e) w = (within-more s (omega arith) w, λ g. absurd (omega arith))
+  pub copy-from : n ≤ r .len
+  copy-from = omega (arith, copy-spans .ends)
 
-pub attach-over : (s : ProofSubtree) {ns : List Node} {len : ℕ} {a : List ℕ} → len ≤ 512 → 512 < len + s .left .count + s .middle .count + s .right .count → Held ns len a → Within s (length ns)
-    → Attached s s (length ns)
-attach-over s h o p w = (within-more s (omega arith) w, λ g. absurd (omega (arith, size-of s, held-ok p h .0)))
+  pub copy-below : Below (r .chain) (r .len)
+  copy-below = spans-below copy-spans
 
-abbrev Rising : Chain → ℕ → ℕ → Type 0
-Rising c s n = (c .start ≡ s) × (c .count ≡ n) × (chainOf c ≡ upFrom n s)
+  pub copy-length : length ns + length (chainOf c) ≡ r .len
+  copy-length = omega (arith, held-ok q small .0, length-append ns (map (copied ns) (chainOf c)), length-map (chainOf c) (copied ns))
 
-rises : {xs : List ℕ} (d : Chain) (i j : ℕ) → xs ≡ upFrom (d .count) i → i ≡ j → xs ≡ upFrom (length (chainOf d)) j
-rises d i j e f = e ∙ ap (λ (n : ℕ). upFrom n i) (sym (chain-length d)) ∙ ap (upFrom (length (chainOf d))) f
+  pub copy-chain : chainOf (r .chain) ≡ upFrom (length (chainOf c)) (length ns)
+  copy-chain =
+      let e = held-ok p (omega (arith, copy-from, small)) .0 in
+      let k : r .chain .count ≡ length (chainOf c) = omega (arith, copy-spans .ends, copy-length, e) in
+      spans-chain copy-spans ∙ ap (λ (j : ℕ). upFrom j n) k ∙ ap (upFrom (length (chainOf c))) (sym e)
 
 abbrev three : List ℕ → List ℕ → List ℕ → Subtree
 three l m r = record { left = l; middle = m; right = r }
@@ -93,37 +97,57 @@ three l m r = record { left = l; middle = m; right = r }
 threes : {l l′ m m′ r r′ : List ℕ} → l ≡ l′ → m ≡ m′ → r ≡ r′ → three l m r ≡ three l′ m′ r′
 threes {l} {l′} {m} {m′} {r} {r′} e f g = ap (λ (v : List ℕ). three v m r) e ∙ ap (λ (v : List ℕ). three l′ v r) f ∙ ap (three l′ m′) g
 
-pub attach-new : (s r : ProofSubtree) {ns : List Node} {len : ℕ} {a : List ℕ} → len ≤ 512 → Held ns len a
-    → Rising (r .left) len (s .left .count) → Rising (r .middle) (len + s .left .count) (s .middle .count) → Rising (r .right) (len + s .left .count + s .middle .count) (s .right .count)
-    → Attached s r (length ns)
-unfolding subtreeOf numbered
-attach-new s r {ns} {len} h p l m t =
-    let e = held-ok p h .0 in
-    let n = size-of s in
-    let a = chain-length (s .left) in
-    let b = chain-length (s .middle) in
-    let el : chainOf (r .left) ≡ upFrom (length (chainOf (s .left))) (length ns) = rises (s .left) len (length ns) (l .2) (omega arith) in
-    let em : chainOf (r .middle) ≡ upFrom (length (chainOf (s .middle))) (length ns + length (chainOf (s .left))) =
-    rises (s .middle) (len + s .left .count) (length ns + length (chainOf (s .left))) (m .2) (omega arith) in
-    let er : chainOf (r .right) ≡ upFrom (length (chainOf (s .right))) (length ns + length (chainOf (s .left)) + length (chainOf (s .middle))) =
-    rises (s .right) (len + s .left .count + s .middle .count) (length ns + length (chainOf (s .left)) + length (chainOf (s .middle))) (t .2) (omega arith) in (
-      record { onLeft = omega (arith, l .0, l .1); onMiddle = omega (arith, m .0, m .1); onRight = omega (arith, t .0, t .1) },
-      λ g. threes el em er,
-    )
+-- what `copy_chain` does
+abbrev CopiesTo : Chain → ℕ → List ℕ → IssuedChain → List ℕ → Type 0
+CopiesTo c n a r b = DrawnFrom n r × Copies c n a (r .len) b
 
-pub middle-only : (s : ProofSubtree) (start count : ℕ) → Rising (s .left) 0 0 → Rising (s .middle) start count → Rising (s .right) 0 0
+pub attached : (s : ProofSubtree) (ns : List Node) {n : ℕ} {a b c d : List ℕ} (l m r : IssuedChain) → Held ns n a → Within s (length ns)
+    → CopiesTo (s .left) n a l b → CopiesTo (s .middle) (l .len) b m c → CopiesTo (s .right) (m .len) c r d
+    → Attached ns s (record { subtree = record { left = l .chain; middle = m .chain; right = r .chain }; len = r .len }) d
+unfolding subtreeOf numbered
+attached s ns {n} l m r p w f g h =
+    record {
+      nodes = copied-all s ns p w (f .1) (g .1) (h .1);
+      chains = λ small.
+          let ends = h .0 small .ends in
+          let small-m : m .len ≤ 512 = omega (arith, ends, small) in
+          let ends-m = g .0 small-m .ends in
+          let small-l : l .len ≤ 512 = omega (arith, ends-m, small-m) in
+          let u = more ns (chainOf (s .left)) in
+          let v = more u (chainOf (s .middle)) in
+          let pl = f .1 ns p (w .onLeft) in
+          let el = length-append ns (map (copied ns) (chainOf (s .left))) in
+          let pm = g .1 u pl (omega (arith, w .onMiddle, el)) in
+          let em = length-append u (map (copied u) (chainOf (s .middle))) in
+          let pr = h .1 v pm (omega (arith, w .onRight, el, em)) in
+          let nl = copy-length ns (s .left) l p pl (f .0) small-l in
+          let nm = copy-length u (s .middle) m pl pm (g .0) small-m in
+          let hl = held-ok pl small-l .0 in
+          let hm = held-ok pm small-m .0 in
+          record {
+            are =
+                threes (copy-chain ns (s .left) l p pl (f .0) small-l)
+                (copy-chain u (s .middle) m pl pm (g .0) small-m ∙ ap (upFrom (length (chainOf (s .middle)))) (omega (arith, hl, nl)))
+                (copy-chain v (s .right) r pm pr (h .0) small ∙ ap (upFrom (length (chainOf (s .right)))) (omega (arith, hl, nl, hm, nm)));
+            within =
+                record {
+                  onLeft = omega (arith, copy-below ns (s .left) l p pl (f .0) small-l, ends, ends-m);
+                  onMiddle = omega (arith, copy-below u (s .middle) m pl pm (g .0) small-m, ends);
+                  onRight = copy-below v (s .right) r pm pr (h .0) small;
+                };
+          };
+    }
+
+pub middle-only : (s : ProofSubtree) (start count : ℕ) → s .left ≡ emptyChain → s .middle ≡ risingChain start count → s .right ≡ emptyChain
     → (subtreeOf s ≡ withMiddle (upFrom count start)) × ((m : ℕ) → start + count ≤ m → Within s m)
-unfolding subtreeOf
-middle-only s start count l m r = (
-  threes (l .2) (m .2) (r .2),
-  λ n h. record { onLeft = omega (arith, l .0, l .1); onMiddle = omega (arith, m .0, m .1); onRight = omega (arith, r .0, r .1) },
-)
+unfolding subtreeOf chainOf
+middle-only s start count l m r = rw (l, m, r) (refl, λ n h. record { onLeft = omega arith; onMiddle = h; onRight = omega arith })
 
 -- ---- linked below a leaf
 abbrev Links : Chain → ℕ → ℕ → ℕ → List ℕ → List ℕ → Type 0
-Links c y code len a b = (ms : List Node) (p : Place) → placeCode p ≡ code → Held ms len a → Below c (length ms) → Held (linkChain ms y p (chainOf c)) len b
+Links c y code len a b = (ms : List Node) (p : Place) → placeCode p ≡ code → Held ms len a → (length ms ≤ 512 → Below c (length ms)) → Held (linkChain ms y p (chainOf c)) len b
 
-pub hung : (s : ProofSubtree) (ns : List Node) (y : ℕ) {len : ℕ} {a b c d : List ℕ} → Held ns len a → Within s (length ns)
+pub hung : (s : ProofSubtree) (ns : List Node) (y : ℕ) {len : ℕ} {a b c d : List ℕ} → Held ns len a → (length ns ≤ 512 → Within s (length ns))
     → Links (s .left) y 1 len a b → Links (s .middle) y 2 len b c → Links (s .right) y 3 len c d → Held (appendSubtreeOnLeaf ns y (subtreeOf s)) len d
 unfolding appendSubtreeOnLeaf subtreeOf
 hung s ns y p w f g h =
@@ -131,11 +155,13 @@ hung s ns y p w f g h =
     let u = linkChain t y Middle (chainOf (s .middle)) in
     let e = length-chain ns y Left (chainOf (s .left)) in
     let e′ = length-chain t y Middle (chainOf (s .middle)) in
-    h u Right refl (g t Middle refl (f ns Left refl p (w .onLeft)) (omega (arith, w .onMiddle))) (omega (arith, w .onRight))
+    h u Right refl
+    (g t Middle refl (f ns Left refl p (λ i. w i .onLeft)) (λ i. omega (arith, e, w (omega (arith, e, i)) .onMiddle)))
+    (λ i. omega (arith, e, e′, w (omega (arith, e, e′, i)) .onRight))
 
 -- ---- queued
 abbrev Turned : Chain → Chain → Type 0
-Turned c d = (chainOf d ≡ reverse (chainOf c)) × (d .start ≡ c .start) × (d .count ≡ c .count)
+Turned c d = (chainOf d ≡ reverse (chainOf c)) × (d .start .0 ≡ c .start .0) × (d .count ≡ c .count)
 
 pub pushed-turned : (c d : Chain) (q : List ℕ) {n n′ : ℕ} {a b : List ℕ} → Turned c d → Listed q n a → Below c 512
     → ((l : List ℕ) → Listed l n a → Below d 512 → Listed (l ++ chainOf d) n′ b) → Listed (q ++ reverse (chainOf c)) n′ b

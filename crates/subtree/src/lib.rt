@@ -3,11 +3,12 @@
 use arrays::nth;
 use arrays::push;
 use tree::Chain;
+use tree::IssuedChain;
 use tree::ProofTreeNodeID;
 use tree::chain_at;
+use tree::extend;
 use tree::formula_of;
 use tree::link_chain;
-use tree::new_node;
 use tree::spawner_of;
 use tree::takers;
 use tree::world_of;
@@ -18,12 +19,12 @@ ghost use lib.ListN.{length, getD, drop};
 ghost use Rattle.arrays.specs.Listed.{Listed};
 ghost use Rattle.definition.specs.Lists.{upFrom};
 ghost use Rattle.definition.specs.Tree.{Node};
-ghost use Rattle.definition.specs.Subtree.{withMiddle, flat, numbered, copied, appendSubtreeOnLeaf, pushSubtree, appendCopies, appendOn, appendSubtree, appendLogicRuleResult};
+ghost use Rattle.definition.specs.Subtree.{Subtree, withMiddle, flat, copied, appendSubtreeOnLeaf, pushSubtree, appendCopies, appendOn, appendSubtree, appendLogicRuleResult};
 ghost use Rattle.definition.proofs.Treed.{Treed};
 ghost use Rattle.definition.proofs.Growing.{Steady};
 ghost use Rattle.tree.specs.Lay.{Held};
-ghost use Rattle.tree.specs.Chain.{chainOf, Below};
-ghost use Rattle.subtree.specs.Subtree.{subtreeOf, Within, Left};
+ghost use Rattle.tree.specs.Chain.{chainOf, Below, Spans, DrawnFrom};
+ghost use Rattle.subtree.specs.Subtree.{subtreeOf, Within, Chained, Attached, Left};
 ghost use Rattle.subtree.specs.Rows.{Row, Rows, itemFrom};
 
 pub struct ProofSubtree {
@@ -39,40 +40,35 @@ pub struct Counts {
 }
 
 // The same chain from the other end.
-pub fn turned(c: Chain) -> Chain
-    ensures { λ r. ⌜ (chainOf r ≡ reverse (chainOf c)) × (r .start ≡ c .start) × (r .count ≡ c .count) ⌝ }
+fn turned(c: Chain) -> Chain
+    ensures { λ r. ⌜ (chainOf r ≡ reverse (chainOf c)) × (r .start .0 ≡ c .start .0) × (r .count ≡ c .count) ⌝ }
 {
+    let start = c.start;
     Chain {
-        start: c.start,
+        start,
         count: c.count,
         rising: !c.rising,
     }
 }
 
-// `count` identifiers from `start` on, the first on top.
-fn rising(start: u16, count: u16) -> Chain
-    ensures { λ r. ⌜ (r .start ≡ start) × (r .count ≡ count) × (chainOf r ≡ upFrom count start) ⌝ }
+// A middle chain of rising identifiers alone.
+fn with_middle_vertical_nodes(start: ProofTreeNodeID, count: u16) -> ProofSubtree
+    ensures { λ r. ⌜ (subtreeOf r ≡ withMiddle (upFrom count (start .0))) × ((m : ℕ) → start .0 + count ≤ m → Within r m) ⌝ }
 {
-    Chain {
+    let middle = Chain {
         start,
         count,
         rising: true,
-    }
-}
-
-// A middle chain of rising identifiers alone.
-pub fn with_middle_vertical_nodes(start: u16, count: u16) -> ProofSubtree
-    ensures { λ r. ⌜ (subtreeOf r ≡ withMiddle (upFrom count start)) × ((m : ℕ) → start + count ≤ m → Within r m) ⌝ }
-{
+    };
     ProofSubtree {
-        left: rising(0, 0),
-        middle: rising(start, count),
-        right: rising(0, 0),
+        left: Chain::EMPTY,
+        middle,
+        right: Chain::EMPTY,
     }
 }
 
 // How many nodes the subtree has.
-pub fn size(s: ProofSubtree) -> usize
+fn size(s: ProofSubtree) -> usize
     ensures { λ r. ⌜ r ≡ length (flat (subtreeOf s)) ⌝ }
 {
     let l = s.left;
@@ -81,67 +77,65 @@ pub fn size(s: ProofSubtree) -> usize
     l.count as usize + m.count as usize + r.count as usize
 }
 
-// A copy of each node of the chain, in its order.
-pub fn copy_chain(tree: &mut [u16; 4608], len: usize, c: Chain) -> usize
-    ensures { λ r. ⌜ ((ns : List Node) → Held ns len (now (tree .entry)) → Below c (length ns) → Held (ns ++ map (copied ns) (chainOf c)) r (now (tree .exit))) ⌝ }
+// A copy of each node of the chain, in its order: the chain of the copies.
+fn copy_chain(tree: &mut [u16; 4608], len: usize, c: Chain) -> IssuedChain
+    ensures { λ r. ⌜ DrawnFrom len r × ((ns : List Node) → Held ns len (now (tree .entry)) → Below c (length ns) → Held (ns ++ map (copied ns) (chainOf c)) (r .len) (now (tree .exit))) ⌝ }
 {
     let n = c.count as usize;
-    let mut m = len;
+    let mut copies = IssuedChain {
+        chain: Chain::EMPTY,
+        len,
+    };
     let mut k: usize = 0;
     while k < n {
         let x = chain_at(c, k);
         let s = spawner_of(tree, x);
         let f = formula_of(tree, x);
         let w = world_of(tree, x);
-        m = new_node(tree, m, s, f, w);
+        copies = extend(tree, copies, s, f, w);
         k += 1;
     }
-    m
+    copies
 }
 
-// A copy of each node of the subtree.
-pub fn copy_subtree(tree: &mut [u16; 4608], len: usize, s: ProofSubtree) -> usize
-    ensures { λ r. ⌜ ((ns : List Node) → Held ns len (now (tree .entry)) → Within s (length ns) → Held (ns ++ map (copied ns) (flat (subtreeOf s))) r (now (tree .exit))) ⌝ }
+// A subtree of identifiers that were drawn, and how many are issued with them.
+struct IssuedSubtree {
+    subtree: ProofSubtree,
+    len: usize,
+}
+
+// A copy of each node of the subtree, under identifiers drawn for it.
+fn attach_new_ids(tree: &mut [u16; 4608], len: usize, s: ProofSubtree) -> IssuedSubtree
+    ensures { λ r. ⌜ ((ns : List Node) → Held ns len (now (tree .entry)) → Within s (length ns) → Attached ns s r (now (tree .exit))) ⌝ }
 {
     let l = s.left;
     let m = s.middle;
     let r = s.right;
     let a = copy_chain(tree, len, l);
-    let b = copy_chain(tree, a, m);
-    copy_chain(tree, b, r)
-}
-
-// The identifiers that a copy of the subtree gets, where they fit.
-pub fn attach_new_ids(s: ProofSubtree, len: usize) -> ProofSubtree
-    ensures { λ r. ⌜ ((ns : List Node) (a : List ℕ) → Held ns len a → Within s (length ns)
-        → Within r (length ns + length (flat (subtreeOf s))) × (length ns + length (flat (subtreeOf s)) ≤ 512 → subtreeOf r ≡ numbered (length ns) (subtreeOf s))) ⌝ }
-{
-    if 512 < len {
-        return s;
-    }
-    let l = s.left;
-    let m = s.middle;
-    let r = s.right;
-    let a = len + l.count as usize;
-    let b = a + m.count as usize;
-    if 512 < b + r.count as usize {
-        return s;
-    }
-    ProofSubtree {
-        left: rising(len as u16, l.count),
-        middle: rising(a as u16, m.count),
-        right: rising(b as u16, r.count),
+    let b = copy_chain(tree, a.len, m);
+    let c = copy_chain(tree, b.len, r);
+    let left = a.chain;
+    let middle = b.chain;
+    let right = c.chain;
+    let subtree = ProofSubtree {
+        left,
+        middle,
+        right,
+    };
+    IssuedSubtree {
+        subtree,
+        len: c.len,
     }
 }
 
 // The subtree becomes what stands below the leaf.
-pub fn append_subtree_on_leaf(
+fn append_subtree_on_leaf(
     tree: &mut [u16; 4608],
     len: usize,
     leaf: ProofTreeNodeID,
     s: ProofSubtree,
 )
-    ensures { λ r. ⌜ ((ns : List Node) → Held ns len (now (tree .entry)) → Within s (length ns) → Held (appendSubtreeOnLeaf ns (leaf .0) (subtreeOf s)) len (now (tree .exit))) ⌝ }
+    ensures { λ r. ⌜ ((ns : List Node) → Held ns len (now (tree .entry)) → (length ns ≤ 512 → Within s (length ns)) → Held (appendSubtreeOnLeaf ns (leaf .0) (subtreeOf s)) len (now (tree .exit))) ⌝ }
 {
     let l = s.left;
     let m = s.middle;
@@ -152,7 +146,7 @@ pub fn append_subtree_on_leaf(
 }
 
 // The chain's identifiers, top first, at the end of a list.
-pub fn push_chain(out: &mut [u16; 512], start: usize, c: Chain) -> usize
+fn push_chain(out: &mut [u16; 512], start: usize, c: Chain) -> usize
     ensures { λ r. ⌜ ((q : List ℕ) → Listed q start (now (out .entry)) → Below c 512 → Listed (q ++ chainOf c) r (now (out .exit))) ⌝ }
 {
     let n = c.count as usize;
@@ -167,7 +161,7 @@ pub fn push_chain(out: &mut [u16; 512], start: usize, c: Chain) -> usize
 }
 
 // The subtree's identifiers at the end of the queue, each chain from the bottom up.
-pub fn push_subtree(wait: &mut [u16; 512], n: usize, s: ProofSubtree) -> usize
+fn push_subtree(wait: &mut [u16; 512], n: usize, s: ProofSubtree) -> usize
     ensures { λ r. ⌜ ((q : List ℕ) → Listed q n (now (wait .entry)) → Within s 512 → Listed (pushSubtree q (subtreeOf s)) r (now (wait .exit))) ⌝ }
 {
     let l = s.left;
@@ -179,7 +173,7 @@ pub fn push_subtree(wait: &mut [u16; 512], n: usize, s: ProofSubtree) -> usize
 }
 
 // A copy of the subtree below one leaf.
-pub fn append_copy(
+fn append_copy(
     tree: &mut [u16; 4608],
     len: usize,
     leaf: ProofTreeNodeID,
@@ -190,18 +184,18 @@ pub fn append_copy(
     ensures { λ r. ⌜ ((ns : List Node) (q : List ℕ) → Held ns len (now (tree .entry)) → (len ≤ 512 → Listed q n (now (wait .entry))) → Within s (length ns)
         → Left (appendCopies ns q (leaf .0 ∷ []) (subtreeOf s)) r (now (tree .exit)) (now (wait .exit))) ⌝ }
 {
-    let m = copy_subtree(tree, len, s);
-    let t = attach_new_ids(s, len);
-    append_subtree_on_leaf(tree, m, leaf, t);
-    let w = push_subtree(wait, n, t);
+    let copied = attach_new_ids(tree, len, s);
+    let copy = copied.subtree;
+    append_subtree_on_leaf(tree, copied.len, leaf, copy);
+    let w = push_subtree(wait, n, copy);
     Counts {
-        nodes: m,
+        nodes: copied.len,
         waiting: w,
     }
 }
 
 // A copy of the subtree below each of the leaves, from the given one on.
-pub fn append_copies(
+fn append_copies(
     tree: &mut [u16; 4608],
     len: usize,
     leaves: &[u16; 512],
@@ -228,7 +222,7 @@ pub fn append_copies(
 }
 
 // Below the first of the leaves the subtree, below each further one a copy.
-pub fn append_on(
+fn append_on(
     tree: &mut [u16; 4608],
     len: usize,
     leaves: &[u16; 512],
@@ -261,8 +255,8 @@ pub fn append_subtree(
     wait: &mut [u16; 512],
     n: usize,
 ) -> Counts
-    ensures { λ r. ⌜ ((ns : List Node) (q : List ℕ) → Held ns len (now (tree .entry)) → (len ≤ 512 → Listed q n (now (wait .entry))) → Within s (length ns)
-        → (length ns ≤ 512 → Treed ns) → Left (appendSubtree ns q (target .0) (subtreeOf s)) r (now (tree .exit)) (now (wait .exit))) ⌝ }
+    ensures { λ r. ⌜ ((ns : List Node) (q : List ℕ) (t : Subtree) → Held ns len (now (tree .entry)) → (len ≤ 512 → Listed q n (now (wait .entry))) → (length ns ≤ 512 → Chained s t (length ns))
+        → (length ns ≤ 512 → Treed ns) → Left (appendSubtree ns q (target .0) t) r (now (tree .exit)) (now (wait .exit))) ⌝ }
 {
     let as_it_was = Counts {
         nodes: len,
@@ -298,26 +292,21 @@ fn item_field(items: &[u16; 1536], k: usize, j: usize) -> u16
     items[k * 3 + j]
 }
 
-// One subtree more: `n` identifiers from `start` on, above all that are there. None: nothing is stored. 513 where there is no room.
-pub fn push_item(
-    items: &mut [u16; 1536],
-    count: usize,
-    target: ProofTreeNodeID,
-    start: u16,
-    n: u16,
-) -> usize
-    ensures { λ r. ⌜ ((rs : List Row) (m : ℕ) → Rows rs count (now (items .entry)) m → m ≤ start
-        → Rows (rs ++ (record { target = target .0; start = start; count = n } ∷ [])) r (now (items .exit)) (start + n)) ⌝ }
+// One subtree more: a middle chain of identifiers above all that are there. None: nothing is stored. 513 where there is no room.
+pub fn push_item(items: &mut [u16; 1536], count: usize, target: ProofTreeNodeID, c: Chain) -> usize
+    ensures { λ r. ⌜ ((rs : List Row) (lo hi : ℕ) → Rows rs count (now (items .entry)) lo → Spans c lo hi
+        → Rows (rs ++ (record { target = target .0; start = lo; count = c .count } ∷ [])) r (now (items .exit)) hi) ⌝ }
 {
-    if n == 0 {
+    if c.count == 0 {
         return count;
     }
     if 512 <= count {
         return 513;
     }
+    let start = c.start;
     items[count * 3] = target.0;
-    items[count * 3 + 1] = start;
-    items[count * 3 + 2] = n;
+    items[count * 3 + 1] = start.0;
+    items[count * 3 + 2] = c.count;
     count + 1
 }
 
@@ -344,7 +333,8 @@ pub fn append_logic_rule_result(
     let mut k: usize = 0;
     while k < count {
         let target = ProofTreeNodeID(item_field(items, k, 0));
-        let s = with_middle_vertical_nodes(item_field(items, k, 1), item_field(items, k, 2));
+        let start = ProofTreeNodeID(item_field(items, k, 1));
+        let s = with_middle_vertical_nodes(start, item_field(items, k, 2));
         here = append_subtree(tree, here.nodes, target, s, wait, here.waiting);
         k += 1;
     }

@@ -1,8 +1,8 @@
 -- What each function reads or does of the nodes that the table holds.
 use Prim.Native.Nat.{ℕ, _+_, _*_, _<_, _≤_}
 use mathlib.Core.Path.{_≡_, refl, sym, ap, _∙_, subst}
-use mathlib.Core.Bool.{Bool, true, false, not}
-use mathlib.Core.List.{List, [], _∷_, _++_}
+use mathlib.Core.Bool.{Bool, true, false, cond, not}
+use mathlib.Core.List.{List, [], _∷_, _++_, append-nil}
 use native.Mathlib.Omega.{arith}
 use native.Mathlib.Decide.{decLe}
 use lib.ListN.{length, set, replicate, length-append}
@@ -164,6 +164,13 @@ new-drawn ns {len} {m} {x} {a} {b} {c} {d} s f w i e g2 g3 g4 p = elim (decLe 51
       let at : x ≡ len = i ∙ sym (id-next len room refl) in
       new-filled ns s f w (e ∙ sym (count-more len room refl)) (omega arith) (subst (λ (k : ℕ). Puts m a b k 2 w) at g2) (subst (λ (k : ℕ). Puts m b c k 3 f) at g3) (subst (λ (k : ℕ). Puts m c d k 4 s) at g4) p
 ]
+
+-- ---- one node, if it is to be made
+pub make-one : (ns : List Node) {n : ℕ} {a : List ℕ} (x : Node) {b : Bool} → b ≡ true → Held (ns ++ (x ∷ [])) n a → Held (ns ++ cond b (x ∷ []) []) n a
+make-one ns x {b} e p = held-as (ns ++ cond b (x ∷ []) []) (rw e refl) p
+
+pub make-none : (ns : List Node) {n : ℕ} {a : List ℕ} (x : Node) {b : Bool} → b ≡ false → Held ns n a → Held (ns ++ cond b (x ∷ []) []) n a
+make-none ns x {b} e p = held-as (ns ++ cond b (x ∷ []) []) (rw e (sym (append-nil ns))) p
 
 -- ---- links
 module _ (ns : List Node) (p : Place) {place len : ℕ} {a b c d e g : List ℕ} (x y : ℕ) (z : placeCode p ≡ place)

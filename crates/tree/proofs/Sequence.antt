@@ -1,11 +1,14 @@
 -- The sequence of identifiers, with room and without.
-use Prim.Native.Nat.{ℕ, _+_, _<_}
+use Prim.Native.Nat.{ℕ, _+_, _<_, _≤_}
 use mathlib.Core.Path.{_≡_, refl, sym, _∙_}
 use mathlib.Core.Bool.{Bool, true, false}
 use lib.Dec.{leb}
-use borrow.Author.Tests.{leb-false}
+use native.Mathlib.Omega.{arith}
+use native.Mathlib.Decide.{decLe}
+use borrow.Author.Tests.{leb-false, le-leb, lt-leb}
 use Rattle.definition.specs.Records.{nobody}
-use Rattle.tree.specs.Sequence.{idAt, countAfter}
+use Rattle.tree.specs.declared.Issued.{Issued}
+use Rattle.tree.specs.Sequence.{idAt, countAfter, Draws}
 
 module _ (n : ℕ) {full : Bool} (e : full ≡ leb 512 n) where
   pub room : full ≡ false → n < 512
@@ -26,3 +29,20 @@ module _ (n : ℕ) {full : Bool} (e : full ≡ leb 512 n) where
   pub count-more : full ≡ false → n + 1 ≡ countAfter n
   unfolding countAfter
   count-more h = rw (← e, h) refl
+
+pub id-fits : (n : ℕ) → n < 512 → idAt n ≡ n
+id-fits n h = sym (id-next n (sym (lt-leb 512 n h)) refl)
+
+-- an identifier that fits is the count before it
+pub record Next (n : ℕ) (r : Issued) : Type 0 where
+  pub room : n < 512
+  pub id : r .id .0 ≡ n
+  pub count : r .len ≡ n + 1
+
+pub drawn-next : {n : ℕ} {r : Issued} → Draws n r → r .len ≤ 512 → Next n r
+drawn-next {n} {r} d h = elim (decLe 512 n) [
+  | yes g ↦ absurd (omega (arith, h, d .count, count-full n (sym (le-leb 512 n g)) refl))
+  | no g ↦
+      let e = sym (lt-leb 512 n (omega (arith, g))) in
+      record { room = omega (arith, g); id = d .id ∙ id-fits n (omega (arith, g)); count = d .count ∙ sym (count-more n e refl) }
+]

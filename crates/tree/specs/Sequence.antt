@@ -1,8 +1,10 @@
 -- The sequence of the nodes' identifiers. Its number n is the identifier that is next, which is how many are issued; 513 says that a draw found no room.
 use Prim.Native.Nat.{ℕ, _+_}
+use mathlib.Core.Path.{_≡_}
 use mathlib.Core.Bool.{cond}
 use lib.Dec.{leb}
 use Rattle.definition.specs.Records.{nobody}
+use Rattle.tree.specs.declared.Issued.{Issued}
 
 -- the identifier that the sequence gives next; none where 512 are issued
 unfoldable pub idAt : ℕ → ℕ
@@ -11,3 +13,8 @@ idAt n = cond (leb 512 n) nobody n
 -- its number once that is issued
 unfoldable pub countAfter : ℕ → ℕ
 countAfter n = cond (leb 512 n) 513 (n + 1)
+
+-- what is drawn where n are issued
+pub record Draws (n : ℕ) (r : Issued) : Type 0 where
+  pub id : r .id .0 ≡ idAt n
+  pub count : r .len ≡ countAfter n

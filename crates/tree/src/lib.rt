@@ -4,26 +4,31 @@ use arrays::push;
 use formula::FormulaNumber;
 use graph::PossibleWorld;
 ghost use mathlib.Core.Path.{_≡_};
+ghost use mathlib.Core.Bool.{cond};
+ghost use mathlib.Core.Logic.{_⊎_};
 ghost use mathlib.Core.List.{List, [], _∷_, _++_};
 ghost use Prim.Native.Nat.{ℕ, _≤_, _<_, _+_};
 ghost use lib.Dec.{eqb, leb};
 ghost use lib.ListN.{length, getD, set};
 ghost use Rattle.arrays.specs.Listed.{Listed};
 ghost use Rattle.definition.specs.Lists.{any, filter};
-ghost use Rattle.definition.specs.Records.{isNobody};
+ghost use Rattle.definition.specs.Records.{nobody, isNobody};
 ghost use Rattle.definition.specs.Tree.{Node, Place, nodeAt, newNode, markedAgainst, isContradictory, change, link, linkChain, isLeaf, leavesBelow, leaves, path};
 ghost use Rattle.definition.specs.Subtree.{takes};
 ghost use Rattle.definition.proofs.Treed.{Treed};
 ghost use Rattle.definition.proofs.Below.{openBelow};
 ghost use Rattle.tree.specs.Lay.{placeCode, row, lay, Held};
-ghost use Rattle.tree.specs.Chain.{chainOf, Below};
-ghost use Rattle.tree.specs.Sequence.{idAt, countAfter};
+ghost use Rattle.tree.specs.Chain.{chainOf, Below, Spans, DrawnFrom};
+ghost use Rattle.tree.specs.Sequence.{idAt, countAfter, Draws};
 
 pub struct ProofTreeNodeID(pub u16);
 
 impl ProofTreeNodeID {
     // No node: what a node that lacks a parent, a child, a spawner or a contrarian has there.
     pub const NONE: ProofTreeNodeID = ProofTreeNodeID(65535);
+
+    // The root of the tree, the first that is issued.
+    pub const ROOT: ProofTreeNodeID = ProofTreeNodeID(0);
 
     pub fn is(self, other: ProofTreeNodeID) -> bool
         ensures { λ r. ⌜ r ≡ eqb (self .0) (other .0) ⌝ }
@@ -39,7 +44,7 @@ impl ProofTreeNodeID {
 }
 
 // The sequence that every identifier is drawn from: how many are issued, which is the one that is next; 513 after a draw that found no room.
-pub struct ProofTreeNodeIDSequence {
+struct ProofTreeNodeIDSequence {
     issued: usize,
 }
 
@@ -73,7 +78,7 @@ impl ProofTreeNodeIDSequence {
     }
 
     // The next identifier of the sequence that is lent.
-    pub fn next(&mut self) -> ProofTreeNodeID
+    fn next(&mut self) -> ProofTreeNodeID
         ensures { λ r. ⌜ (r .0 ≡ idAt (now (self .entry) .issued)) × (now (self .exit) .issued ≡ countAfter (now (self .entry) .issued)) ⌝ }
     {
         let id = self.current();
@@ -89,7 +94,7 @@ pub struct Issued {
 }
 
 // The next identifier where `len` are issued. Its contract says nothing of a sequence, so its callers need no walk.
-pub fn new_node_id(len: usize) -> Issued
+fn new_node_id(len: usize) -> Issued
     ensures { λ r. ⌜ (r .id .0 ≡ idAt len) × (r .len ≡ countAfter len) ⌝ }
 {
     let mut sequence = ProofTreeNodeIDSequence { issued: len };
@@ -100,11 +105,55 @@ pub fn new_node_id(len: usize) -> Issued
     }
 }
 
+// The identifier that was drawn where `i` were issued; none beyond the limit.
+pub fn id_at(i: usize) -> ProofTreeNodeID
+    ensures { λ r. ⌜ r .0 ≡ idAt i ⌝ }
+{
+    let sequence = ProofTreeNodeIDSequence { issued: i };
+    sequence.current()
+}
+
 // `count` identifiers from `start` on; the first is the top if rising, else the last.
 pub struct Chain {
-    pub start: u16,
+    pub start: ProofTreeNodeID,
     pub count: u16,
     pub rising: bool,
+}
+
+impl Chain {
+    pub const EMPTY: Chain = Chain {
+        start: ProofTreeNodeID(0),
+        count: 0,
+        rising: true,
+    };
+}
+
+// Identifiers drawn one after the other, the first on top, and how many are issued with them.
+pub struct IssuedChain {
+    pub chain: Chain,
+    pub len: usize,
+}
+
+// The chain with one identifier more, at its lower end.
+fn extended(c: Chain, id: ProofTreeNodeID) -> Chain
+    ensures { λ r. ⌜ ((lo : ℕ) → id .0 < 512 → Spans c lo (id .0) → Spans r lo (id .0 + 1)) ⌝ }
+{
+    if c.count == 0 {
+        return Chain {
+            start: id,
+            count: 1,
+            rising: true,
+        };
+    }
+    if c.count == 65535 {
+        return c;
+    }
+    let start = c.start;
+    Chain {
+        start,
+        count: c.count + 1,
+        rising: true,
+    }
 }
 
 // Number j of the row of node x; 65535 where there is none.
@@ -199,15 +248,15 @@ fn put_field(tree: &mut [u16; 4608], len: usize, x: ProofTreeNodeID, j: usize, v
     tree[i * 9 + j] = v;
 }
 
-// One node more, not in the tree yet, whose identifier is the old count; 513 where there is no room.
+// One node more, not in the tree yet: its identifier, and the count with it; none and 513 where there is no room.
 pub fn new_node(
     tree: &mut [u16; 4608],
     len: usize,
     spawner: ProofTreeNodeID,
     formula: FormulaNumber,
     world: PossibleWorld,
-) -> usize
-    ensures { λ r. ⌜ ((ns : List Node) → Held ns len (now (tree .entry)) → Held (ns ++ (newNode (spawner .0) (formula .0) (world .0) ∷ [])) r (now (tree .exit))) ⌝ }
+) -> Issued
+    ensures { λ r. ⌜ Draws len r × ((ns : List Node) → Held ns len (now (tree .entry)) → Held (ns ++ (newNode (spawner .0) (formula .0) (world .0) ∷ [])) (r .len) (now (tree .exit))) ⌝ }
 {
     let drawn = new_node_id(len);
     let x = drawn.id;
@@ -215,7 +264,45 @@ pub fn new_node(
     put_field(tree, count, x, 2, world.0);
     put_field(tree, count, x, 3, formula.0);
     put_field(tree, count, x, 4, spawner.0);
-    count
+    drawn
+}
+
+// One node more, whose identifier goes to the lower end of the chain.
+pub fn extend(
+    tree: &mut [u16; 4608],
+    here: IssuedChain,
+    spawner: ProofTreeNodeID,
+    formula: FormulaNumber,
+    world: PossibleWorld,
+) -> IssuedChain
+    ensures { λ r. ⌜ ((lo : ℕ) → DrawnFrom lo here → DrawnFrom lo r)
+        × ((ns : List Node) → Held ns (here .len) (now (tree .entry)) → Held (ns ++ (newNode (spawner .0) (formula .0) (world .0) ∷ [])) (r .len) (now (tree .exit))) ⌝ }
+{
+    let drawn = new_node(tree, here.len, spawner, formula, world);
+    let before = here.chain;
+    let id = drawn.id;
+    IssuedChain {
+        chain: extended(before, id),
+        len: drawn.len,
+    }
+}
+
+// The same, if the node is to be made.
+pub fn extend_if(
+    tree: &mut [u16; 4608],
+    here: IssuedChain,
+    spawner: ProofTreeNodeID,
+    formula: FormulaNumber,
+    world: PossibleWorld,
+    keep: bool,
+) -> IssuedChain
+    ensures { λ r. ⌜ ((lo : ℕ) → DrawnFrom lo here → DrawnFrom lo r)
+        × ((ns : List Node) → Held ns (here .len) (now (tree .entry)) → Held (ns ++ cond keep (newNode (spawner .0) (formula .0) (world .0) ∷ []) []) (r .len) (now (tree .exit))) ⌝ }
+{
+    if keep {
+        return extend(tree, here, spawner, formula, world);
+    }
+    here
 }
 
 // Marks node x against its contrarian.
@@ -231,7 +318,7 @@ pub fn mark_child_node_as_contradictory(
 }
 
 // x becomes the child of y at a place: 1 left, 2 middle, 3 right.
-pub fn link(tree: &mut [u16; 4608], len: usize, y: ProofTreeNodeID, place: u16, x: ProofTreeNodeID)
+fn link(tree: &mut [u16; 4608], len: usize, y: ProofTreeNodeID, place: u16, x: ProofTreeNodeID)
     ensures { λ r. ⌜ ((ns : List Node) (p : Place) → placeCode p ≡ place → Held ns len (now (tree .entry)) → Held (link ns (y .0) p (x .0)) len (now (tree .exit))) ⌝ }
 {
     put_field(tree, len, x, 0, y.0);
@@ -245,11 +332,13 @@ pub fn link(tree: &mut [u16; 4608], len: usize, y: ProofTreeNodeID, place: u16, 
     put_field(tree, len, y, place as usize + 5, x.0);
 }
 
-// Identifier k of a chain, from the top.
+// Identifier k of a chain, from the top; none beyond the chain, and none of a chain that does not fit.
 pub fn chain_at(c: Chain, k: usize) -> ProofTreeNodeID
-    ensures { λ r. ⌜ (Below c 512 → k < c .count → r .0 ≡ getD (chainOf c) k 0) ⌝ }
+    ensures { λ r. ⌜ (Below c 512 → k < c .count → r .0 ≡ getD (chainOf c) k 0)
+        × ((c .count ≤ k) ⊎ (512 < c .start .0 + c .count) → r .0 ≡ nobody) ⌝ }
 {
-    let s = c.start as usize;
+    let first = c.start;
+    let s = first.0 as usize;
     let n = c.count as usize;
     if n <= k {
         return ProofTreeNodeID::NONE;
@@ -265,7 +354,7 @@ pub fn chain_at(c: Chain, k: usize) -> ProofTreeNodeID
 
 // The chain below y: the first at a place, each further one the middle child of the one before.
 pub fn link_chain(tree: &mut [u16; 4608], len: usize, y: ProofTreeNodeID, place: u16, c: Chain)
-    ensures { λ r. ⌜ ((ns : List Node) (p : Place) → placeCode p ≡ place → Held ns len (now (tree .entry)) → Below c (length ns) → Held (linkChain ns (y .0) p (chainOf c)) len (now (tree .exit))) ⌝ }
+    ensures { λ r. ⌜ ((ns : List Node) (p : Place) → placeCode p ≡ place → Held ns len (now (tree .entry)) → (length ns ≤ 512 → Below c (length ns)) → Held (linkChain ns (y .0) p (chainOf c)) len (now (tree .exit))) ⌝ }
 {
     if 512 < len {
         return;
@@ -284,7 +373,7 @@ pub fn link_chain(tree: &mut [u16; 4608], len: usize, y: ProofTreeNodeID, place:
 }
 
 // The path of a leaf holds a contradictory node.
-pub fn path_is_contradictory(tree: &[u16; 4608], len: usize, leaf: ProofTreeNodeID) -> bool
+fn path_is_contradictory(tree: &[u16; 4608], len: usize, leaf: ProofTreeNodeID) -> bool
     ensures { λ r. ⌜ ((ns : List Node) → length ns ≡ len → len ≤ 512 → now (tree .entry) ≡ lay ns → r ≡ any (λ x. isContradictory (nodeAt ns x)) (path ns (leaf .0))) ⌝ }
 {
     let mut cur = leaf;

@@ -36,18 +36,18 @@ place-fork-requires c κs = search needs
 returns : tie.Need-returns
 returns c = λ F s recs q log b.
     let t = s .nodes in
-    let x = c .before .before .before .before .before .before .before .before .before .before .before .before .before .before .before .before .before .before .before .before .before .before .before .before .args .x .0 in
-    let f = c .before .before .before .before .before .before .before .before .before .before .before .before .before .before .before .before .before .before .before .before .before .before .before .before .args .f .0 in
-    let known = c .before .before .before .before .before .before .before .before .before .before .before .before .before .before .before .before .before .before .before .before .before .before .initialize-graph-if-needed .ensures F (s .graph) log (b .graph) in
+    let x = c .before .before .before .before .before .before .before .before .before .before .before .before .before .before .before .before .before .before .before .before .before .before .before .before .before .args .x .0 in
+    let f = c .before .before .before .before .before .before .before .before .before .before .before .before .before .before .before .before .before .before .before .before .before .before .before .before .before .args .f .0 in
+    let known = c .before .before .before .before .before .before .before .before .before .before .before .before .before .before .before .before .before .before .before .before .before .before .before .initialize-graph-if-needed .ensures F (s .graph) log (b .graph) in
     let few = known-few F (s .graph) (b .graph) (b .few) known in
-    let v = forked-at F s x recs f q (c .before .before .before .before .before .before .before .before .before .before .before .before .before .before .before .before .before .before .before .before .before .forked-world .ensures) known few in
-    let u = c .before .before .before .before .before .before .before .before .before .before .before .before .before .before .before .before .before .before .world-of .ensures t (b .fits) (b .laid) in
-    let drawn = forked-drawn F s x recs f q u (c .before .before .before .before .before .before .before .before .before .before .before .before .before .before .before .before .before .fork-world .ensures F _ log few known) in
-    let fits : c .before .before .before .before .before .before .before .before .before .before .before .before .before .before .before .before .before .before .before .before .before .before .before .before .args .p .nodes ≤ 512 = omega (arith, b .fits, b .count) in
-    let two = forked-held F s x recs f q v (c .before .before .before .before .before .before .before .before .before .before .before .before .fork-nodes .ensures t (before-held b)) in
+    let v = forked-at F s x recs f q (c .before .before .before .before .before .before .before .before .before .before .before .before .before .before .before .before .before .before .before .before .before .before .forked-world .ensures) known few in
+    let u = c .before .before .before .before .before .before .before .before .before .before .before .before .before .before .before .before .before .before .before .world-of .ensures t (b .fits) (b .laid) in
+    let drawn = forked-drawn F s x recs f q u (c .before .before .before .before .before .before .before .before .before .before .before .before .before .before .before .before .before .before .fork-world .ensures F _ log few known) in
+    let fits : c .before .before .before .before .before .before .before .before .before .before .before .before .before .before .before .before .before .before .before .before .before .before .before .before .before .args .p .nodes ≤ 512 = omega (arith, b .fits, b .count) in
+    let two = forked-held F s x recs f q v (c .before .before .before .before .before .before .before .before .before .before .before .before .before .fork-nodes .ensures .1 t (before-held b)) in
     let r = c .before .before .before .before .reapply-necessity-after-possibility .ensures t _ _ (s .necessities) [] _ _ (b .necessities) refl drawn (b .count) (b .treed) (b .spawned)
-    (λ some. forked-seen F s x recs f q _ v (c .before .before .before .before .before .before .before .before .before .before .before .before .before .before .worlds-at-fork .ensures t (b .treed) (b .count) fits (b .laid) (length-replicate {A = ℕ} 512 0) some)) two (λ _. listing-start _) in
-    possibility-after F s x recs f q (b .count) (r .0) (r .1) drawn (b .waiting) (b .treed) (c .place-fork .ensures)
+    (λ some. forked-seen F s x recs f q _ v (c .before .before .before .before .before .before .before .before .before .before .before .before .before .before .before .worlds-at-fork .ensures t (b .treed) (b .count) fits (b .laid) (length-replicate {A = ℕ} 512 0) some)) two (λ _. listing-start _) in
+    possibility-after F s x recs f q (b .count) (r .0) (r .1) drawn (b .waiting) (b .treed) (c .before .before .before .before .before .before .before .before .before .before .before .before .before .fork-nodes .ensures .0) (c .place-fork .ensures)
 
 pub apply-possibility-spec : {M : Type 1} → statement M
 apply-possibility-spec =

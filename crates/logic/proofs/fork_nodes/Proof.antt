@@ -3,14 +3,8 @@ use borrow.Author.Needs.{needs}
 use Rattle.logic.proofs.fork_nodes.Statement.{statement}
 use Rattle.logic.proofs.fork_nodes.Tie as tie
 
-new-node-requires : tie.Need-new-node-requires
-new-node-requires c κs = search needs
-
-new-node-requires-2 : tie.Need-new-node-requires-2
-new-node-requires-2 c κs = search needs
-
 returns : tie.Need-returns
-returns c = λ ns h. two-nodes ns _ _ (c .new-node2 .ensures _ (c .before .before .new-node .ensures ns h))
+returns c = let formula = c .before .before .before .new-node .ensures in (formula .0 .id, λ ns h. two-nodes ns _ _ (c .before .new-node2 .ensures .1 _ (formula .1 ns h)))
 
 pub fork-nodes-spec : {M : Type 1} → statement M
-fork-nodes-spec = tie.close (tie.spec new-node-requires new-node-requires-2 returns)
+fork-nodes-spec = tie.close (tie.spec (λ c κs. search needs) (λ c κs. search needs) returns)

@@ -14,6 +14,7 @@ use Rattle.tree.specs.Lay.{Held}
 use Rattle.subtree.specs.Rows.{Row}
 use Rattle.modality.specs.Seen.{Seen}
 use Rattle.logic.specs.Gave.{Listing}
+use Rattle.logic.proofs.Listings.{listing-one}
 use Rattle.logic.proofs.Giving.{Giving, giving-start, giving-entry, giving-ends, seen-entry}
 use Rattle.logic.proofs.give_on.Statement.{statement}
 use Rattle.logic.proofs.give_on.Tie as tie
@@ -40,8 +41,8 @@ word-at-requires c κs = search needs
 give-on-leaf-requires : tie.Need-give-on-leaf-requires Inv-loop μ-loop
 give-on-leaf-requires c κs = search needs
 
-push-given-requires : tie.Need-push-given-requires Inv-loop μ-loop
-push-given-requires c κs = search needs
+push-item-requires : tie.Need-push-item-requires Inv-loop μ-loop
+push-item-requires c κs = search needs
 
 add-j : tie.Need-add-j Inv-loop μ-loop
 add-j c = search needs
@@ -53,12 +54,12 @@ loop-again : tie.Need-loop-again Inv-loop μ-loop
 loop-again c = (
   search needs,
   λ t more fk n ws ls rs s f w m low l k seen h i.
-      let g = c .before .before .before .before .before .before .before .loop .inv .1 t more fk n ws ls rs s f w m low l k seen h i in
-      let up = c .before .before .before .before .before .before .loop-test .taken in
-      let leaf = c .before .before .before .before .before .nth .ensures ls _ l k up in
+      let g = c .before .before .before .before .before .before .before .before .loop .inv .1 t more fk n ws ls rs s f w m low l k seen h i in
+      let up = c .before .before .before .before .before .before .before .loop-test .taken in
+      let leaf = c .before .before .before .before .before .before .nth .ensures ls _ l k up in
       giving-entry t fk n ws ls l k up leaf s f g
-      (c .before .before .give-on-leaf .ensures (t ++ g .more) (occurs t fk (path t (c .before .before .before .before .before .nth .result))) ws w m low (seen-entry t fk ls _ (c .before .before .before .before .before .before .before .loop .j) _ _ seen (omega (arith, up, listed-count l k)) leaf (c .before .before .before .before .word-at .ensures)))
-      (c .push-given .ensures),
+      (c .before .before .before .give-on-leaf .ensures .1 (t ++ g .more) (occurs t fk (path t (c .before .before .before .before .before .before .nth .result))) ws w m low (seen-entry t fk ls _ (c .before .before .before .before .before .before .before .before .loop .j) _ _ seen (omega (arith, up, listed-count l k)) leaf (c .before .before .before .before .before .word-at .ensures)))
+      (λ rs′ rows small. let drawn = c .before .before .before .give-on-leaf .ensures .0 small in listing-one _ drawn (c .push-item .ensures rs′ _ _ rows drawn)),
 )
 
 returns : tie.Need-returns Inv-loop μ-loop
@@ -76,7 +77,7 @@ give-on-spec =
     nth-requires
     word-at-requires
     give-on-leaf-requires
-    push-given-requires
+    push-item-requires
     add-j
     loop-less
     loop-again

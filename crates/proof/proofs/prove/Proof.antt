@@ -47,7 +47,7 @@ loop-again c = (
   λ F k s l f w a h.
       let g = c .before .before .before .before .before .before .before .before .before .before .before .before .before .loop .inv .1 F k s l f w a h in
       let e = sym (c .before .before .before .before .before .before .before .before .before .before .before .stops .ensures (g .now) _ _ _ _ _ _ _ _ _ (g .kept)) ∙ c .before .before .before .before .before .before .before .before .before .before .if1 .left in
-      going-next g (c .before .before .before .before .before .before .before .before .before .before .before .before .loop-test .taken) e (c .step .ensures F k (g .now) l (g .fit) (g .watch) (g .rooted) e (g .kept)),
+      going-next g (c .before .before .before .before .before .before .before .before .before .before .before .before .loop-test .taken) e (c .step .ensures F k (g .now) l (g .fit) (g .watch) (g .rooted) (g .kept)),
 )
 
 returns-2 : tie.Need-returns-2 Inv-loop μ-loop

@@ -1,34 +1,15 @@
 use mathlib.Core.Path.{refl}
-use Rattle.rules.proofs.Here.{adds-both, here-split}
+use mathlib.Core.List.{[], _∷_}
+use Rattle.rules.proofs.Here.{here-split}
 use borrow.Author.Needs.{needs}
 use Rattle.rules.proofs.split_two.Statement.{statement}
 use Rattle.rules.proofs.split_two.Tie as tie
 
-next-id-requires : tie.Need-next-id-requires
-next-id-requires c κs = search needs
-
-new-node-with-subnode-requires : tie.Need-new-node-with-subnode-requires
-new-node-with-subnode-requires c κs = search needs
-
-new-node-with-subnode-requires-2 : tie.Need-new-node-with-subnode-requires-2
-new-node-with-subnode-requires-2 c κs = search needs
-
-add-with-left-right-nodes : tie.Need-add-with-left-right-nodes
-add-with-left-right-nodes c = search needs
-
-with-left-right-nodes-requires : tie.Need-with-left-right-nodes-requires
-with-left-right-nodes-requires c κs = search needs
-
 returns : tie.Need-returns
-returns c = λ ns h. here-split _ _ h (c .before .before .before .before .before .next-id .ensures .1) _ _ (adds-both _ _ (c .before .before .before .new-node-with-subnode .ensures) (c .before .new-node-with-subnode2 .ensures)) refl refl (c .with-left-right-nodes .ensures)
+returns c = λ ns h.
+    let left = c .before .before .before .before .before .new-node-with-subnode .ensures in
+    let right = c .before .before .before .new-node-with-subnode2 .ensures in
+    here-split _ _ h _ (_ ∷ []) (_ ∷ _ ∷ []) refl (left .0) (right .0) (left .1) (right .1) (c .with-left-right-nodes .ensures)
 
 pub split-two-spec : {M : Type 1} → statement M
-split-two-spec =
-    tie.close
-    (tie.spec
-    next-id-requires
-    new-node-with-subnode-requires
-    new-node-with-subnode-requires-2
-    add-with-left-right-nodes
-    with-left-right-nodes-requires
-    returns)
+split-two-spec = tie.close (tie.spec (λ c κs. search needs) (λ c κs. search needs) (λ c κs. search needs) returns)

@@ -33,7 +33,7 @@ loop-less : tie.Need-loop-less Inv-loop μ-loop
 loop-less c = search needs
 
 loop-again : tie.Need-loop-again Inv-loop μ-loop
-loop-again c = (search needs, λ q p b. pushing-next q (c .before .before .before .before .before .before .args .c) (c .before .before .before .before .loop .k) _ (c .before .before .before .loop-test .taken) (c .before .before .chain-at .ensures b (c .before .before .before .loop-test .taken)) (c .before .before .before .before .loop .inv .1 q p b) (c .push .ensures))
+loop-again c = (search needs, λ q p b. pushing-next q (c .before .before .before .before .before .before .args .c) (c .before .before .before .before .loop .k) _ (c .before .before .before .loop-test .taken) (c .before .before .chain-at .ensures .0 b (c .before .before .before .loop-test .taken)) (c .before .before .before .before .loop .inv .1 q p b) (c .push .ensures))
 
 returns : tie.Need-returns Inv-loop μ-loop
 returns c = λ q p b. pushing-end q (c .before .before .before .args .c) (c .before .loop .k) (c .loop-test .left) (c .before .loop .inv .1 q p b)

@@ -1,13 +1,13 @@
-use Rattle.subtree.proofs.Rows.{rows-skip, rows-over, rows-push}
+use Rattle.subtree.proofs.Rows.{drawn-none, drawn-over, drawn-push}
 use borrow.Author.Needs.{needs}
 use Rattle.subtree.proofs.push_item.Statement.{statement}
 use Rattle.subtree.proofs.push_item.Tie as tie
 
 returns : tie.Need-returns
-returns c = λ rs m p h. rows-skip _ h (c .if1 .taken) p
+returns c = λ rs lo hi p s. drawn-none _ s p (c .if1 .taken)
 
 returns-2 : tie.Need-returns-2
-returns-2 c = λ rs m p h. rows-over _ h (c .before .if1 .left) (c .if2 .taken) p
+returns-2 c = λ rs lo hi p s. drawn-over _ s p (c .before .if1 .left) (c .if2 .taken)
 
 mul-items : tie.Need-mul-items
 mul-items c = search needs
@@ -46,7 +46,7 @@ add-result : tie.Need-add-result
 add-result c = search needs
 
 returns-3 : tie.Need-returns-3
-returns-3 c = λ rs m p h. rows-push _ h (c .before .if1 .left) (c .if2 .left) p
+returns-3 c = λ rs lo hi p s. drawn-push _ s p (c .before .before .if1 .left) (c .before .if2 .left)
 
 pub push-item-spec : {M : Type 1} → statement M
 push-item-spec = tie.close (tie.spec returns returns-2 mul-items mul-items-2 element-write-items mul-items-3 add-items mul-items-4 element-write-items-2 mul-items-5 add-items-2 mul-items-6 element-write-items-3 add-result returns-3)

@@ -11,7 +11,7 @@ use Rattle.tree.proofs.link_chain.Statement.{statement}
 use Rattle.tree.proofs.link_chain.Tie as tie
 
 abbrev Inv-loop : tie.InvT-loop
-Inv-loop tree₀ len place c n above₀ at₀ k₀ tree above at k = (k ≤ n) × ((ns : List Node) (p : Place) → placeCode p ≡ place → Held ns len tree₀ → Below c (length ns) → Linking (linkChain ns (above₀ .0) p (chainOf c)) len tree (above .0) at (drop k (chainOf c)))
+Inv-loop tree₀ len place c n above₀ at₀ k₀ tree above at k = (k ≤ n) × ((ns : List Node) (p : Place) → placeCode p ≡ place → Held ns len tree₀ → (length ns ≤ 512 → Below c (length ns)) → Linking (linkChain ns (above₀ .0) p (chainOf c)) len tree (above .0) at (drop k (chainOf c)))
 
 abbrev μ-loop : tie.MeasureT-loop
 μ-loop tree₀ len place c n above₀ at₀ k₀ tree above at k = n - k
@@ -38,7 +38,7 @@ loop-less : tie.Need-loop-less Inv-loop μ-loop
 loop-less c = search needs
 
 loop-again : tie.Need-loop-again Inv-loop μ-loop
-loop-again c = (search needs, λ ns p z has b. let a = c .before .before .before .before .before .before .before .args in linking-next (a .c) _ (c .before .before .before .before .loop .inv .1 ns p z has b) _ (c .before .before .before .loop-test .taken) (c .before .before .chain-at .ensures (below-fits (a .c) (c .before .before .before .before .before .before .if1 .left) has b) (c .before .before .before .loop-test .taken)) (c .link .ensures))
+loop-again c = (search needs, λ ns p z has b. let a = c .before .before .before .before .before .before .before .args in linking-next (a .c) _ (c .before .before .before .before .loop .inv .1 ns p z has b) _ (c .before .before .before .loop-test .taken) (c .before .before .chain-at .ensures .0 (below-fits (a .c) (c .before .before .before .before .before .before .if1 .left) has b) (c .before .before .before .loop-test .taken)) (c .link .ensures))
 
 returns-2 : tie.Need-returns-2 Inv-loop μ-loop
 returns-2 c = λ ns p z has b. linking-end (c .before .before .before .before .args .c) _ (c .before .loop .inv .1 ns p z has b) (c .loop-test .left)
