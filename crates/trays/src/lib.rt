@@ -160,15 +160,19 @@ pub fn write_nodes(tray: &mut [u8], tree: &[u16; 4608], len: usize)
     ensures { λ r. ⌜ ((ns : List Node) → length ns ≡ len → len ≤ 512 → now (tree .entry) ≡ lay ns → Each (λ (x : Node). x .world < 256) ns
         → 6144 ≤ length (now (tray .entry)) → now (tray .exit) ≡ over (padded nodeTrayLength (concatMap nodeBytes ns)) (now (tray .entry))) ⌝ }
 {
+    if tray.len() < 6144 {
+        return;
+    }
+    if 512 < len {
+        return;
+    }
+    let mut at: usize = 0;
     let mut i: usize = 0;
     while i < len {
-        if 512 <= i {
-            return;
-        }
-        append_node(tray, i * 12, tree, ProofTreeNodeID(i as u16));
+        at = append_node(tray, at, tree, ProofTreeNodeID(i as u16));
         i += 1;
     }
-    put_zeros(tray, i * 12, 6144);
+    put_zeros(tray, at, 6144);
 }
 
 // The record of formula f, 6 bytes.
@@ -197,15 +201,19 @@ pub fn write_formulas(tray: &mut [u8], formulas: &[u16; 5120], count: usize)
     ensures { λ r. ⌜ ((rs : List Rec) → Recorded rs count (now (formulas .entry)) → count ≤ 1280 → Each (λ (r : Rec). r .mark < 256) rs
         → 7680 ≤ length (now (tray .entry)) → now (tray .exit) ≡ over (padded formulaTrayLength (concatMap recordBytes rs)) (now (tray .entry))) ⌝ }
 {
+    if tray.len() < 7680 {
+        return;
+    }
+    if 1280 < count {
+        return;
+    }
+    let mut at: usize = 0;
     let mut i: usize = 0;
     while i < count {
-        if 1280 <= i {
-            return;
-        }
-        put_formula(tray, i * 6, formulas, count, FormulaNumber(i as u16));
+        at = put_formula(tray, at, formulas, count, FormulaNumber(i as u16));
         i += 1;
     }
-    put_zeros(tray, i * 6, 7680);
+    put_zeros(tray, at, 7680);
 }
 
 // The edge number of world u: bit v says that u reaches v. Zero of a number that is no world.

@@ -1,5 +1,5 @@
 use borrow.Author.Needs.{needs}
-use Prim.Native.Nat.{_≤_, _<_, _+_, _-_, _*_}
+use Prim.Native.Nat.{_≤_, _<_, _-_}
 use mathlib.Core.Path.{_≡_}
 use mathlib.Core.List.{List}
 use native.Mathlib.Omega.{arith}
@@ -16,50 +16,26 @@ use Rattle.trays.proofs.write_formulas.Statement.{statement}
 use Rattle.trays.proofs.write_formulas.Tie as tie
 
 abbrev Inv-loop : tie.InvT-loop
-Inv-loop tray₀ formulas count i₀ tray i = (length tray ≡ length tray₀) × (i ≤ 1280) × ((rs : List Rec) → Recorded rs count formulas → count ≤ 1280 → Each (λ (r : Rec). r .mark < 256) rs → 7680 ≤ length tray₀ → Parts recordBytes rs tray₀ i (i * 6) tray)
+Inv-loop tray₀ formulas count at₀ i₀ tray at i = (length tray ≡ length tray₀) × ((rs : List Rec) → Recorded rs count formulas → Each (λ (r : Rec). r .mark < 256) rs → Parts recordBytes rs tray₀ i at tray)
 
 abbrev μ-loop : tie.MeasureT-loop
-μ-loop tray₀ formulas count i₀ tray i = count - i
-
-loop-holds : tie.Need-loop-holds Inv-loop μ-loop
-loop-holds c = (search needs, search needs, λ rs p l h r. parts-start recordBytes 6 record-length rs _)
-
-same-length : tie.Need-same-length Inv-loop μ-loop
-same-length c = search needs
+μ-loop tray₀ formulas count at₀ i₀ tray at i = count - i
 
 returns : tie.Need-returns Inv-loop μ-loop
-returns c = λ rs p l h r. absurd (omega (arith, c .if1 .taken, c .before .loop-test .taken))
+returns c = λ rs p l h r. absurd (omega (arith, c .if1 .taken))
 
-mul-put-formula : tie.Need-mul-put-formula Inv-loop μ-loop
-mul-put-formula c = search needs
+returns-2 : tie.Need-returns-2 Inv-loop μ-loop
+returns-2 c = λ rs p l h r. absurd (omega (arith, c .if2 .taken))
 
-cast-t10 : tie.Need-cast-t10 Inv-loop μ-loop
-cast-t10 c = search needs
-
-put-formula-requires : tie.Need-put-formula-requires Inv-loop μ-loop
-put-formula-requires c κs = search needs
-
-add-i : tie.Need-add-i Inv-loop μ-loop
-add-i c = search needs
-
-loop-less : tie.Need-loop-less Inv-loop μ-loop
-loop-less c = search needs
+loop-holds : tie.Need-loop-holds Inv-loop μ-loop
+loop-holds c = (search needs, λ rs p h. parts-start recordBytes 6 record-length rs _)
 
 loop-again : tie.Need-loop-again Inv-loop μ-loop
 unfolding recAt
-loop-again c = (search needs, search needs, λ rs p l h r. let i = c .before .before .before .before .before .before .loop .i in let e = recorded-count p l in let low : i < length rs = omega (arith, c .before .before .before .before .before .loop-test .taken) in parts-next recordBytes 6 record-length rs _ i (c .before .before .before .before .before .before .loop .inv .2 rs p l h r) ((i + 1) * 6) missing (omega arith) (omega arith) low (c .before .before .put-formula .ensures rs p l (each-get (λ (x : Rec). x .mark < 256) rs missing h i (λ g. absurd (omega arith)))))
+loop-again c = (search needs, λ rs p h. let l = c .before .before .before .before .before .before .if2 .left in let i = c .before .before .before .before .before .loop .i in let e = recorded-count p l in let low : i < length rs = omega (arith, c .before .before .before .before .loop-test .taken) in parts-next recordBytes 6 record-length rs _ i (c .before .before .before .before .before .loop .inv .1 rs p h) missing (omega arith) low (c .before .before .put-formula .ensures rs p l (each-get (λ (x : Rec). x .mark < 256) rs missing h i (λ g. absurd (omega arith)))))
 
-mul-put-zeros : tie.Need-mul-put-zeros Inv-loop μ-loop
-mul-put-zeros c = search needs
-
-put-zeros-requires : tie.Need-put-zeros-requires Inv-loop μ-loop
-put-zeros-requires c κs = search needs
-
-same-length-2 : tie.Need-same-length-2 Inv-loop μ-loop
-same-length-2 c = search needs
-
-returns-2 : tie.Need-returns-2 Inv-loop μ-loop
-returns-2 c = λ rs p l h r. let e = recorded-count p l in c .before .before .put-zeros .ensures (c .before .before .before .before .before .before .before .args .tray .now) (concatMap recordBytes rs) (parts-end recordBytes 6 record-length rs _ (c .before .before .before .before .before .loop .i) (c .before .before .before .before .before .loop .inv .2 rs p l h r) (omega (arith, c .before .before .before .before .loop-test .left))) (omega (arith, length-parts 6 recordBytes record-length rs)) r
+returns-3 : tie.Need-returns-3 Inv-loop μ-loop
+returns-3 c = λ rs p l h r. let e = recorded-count p l in c .before .before .put-zeros .ensures (c .before .before .before .before .before .before .before .before .before .args .tray .now) (concatMap recordBytes rs) (parts-end recordBytes 6 record-length rs _ (c .before .before .before .before .before .loop .i) (c .before .before .before .before .before .loop .inv .1 rs p h) (omega (arith, c .before .before .before .before .loop-test .left))) (omega (arith, length-parts 6 recordBytes record-length rs)) r
 
 pub write-formulas-spec : {M : Type 1} → statement M
 write-formulas-spec =
@@ -67,16 +43,14 @@ write-formulas-spec =
     (tie.spec
     Inv-loop
     μ-loop
-    loop-holds
-    same-length
     returns
-    mul-put-formula
-    cast-t10
-    put-formula-requires
-    add-i
-    loop-less
+    returns-2
+    loop-holds
+    (λ c. search needs)
+    (λ c κs. search needs)
+    (λ c. search needs)
+    (λ c. search needs)
     loop-again
-    mul-put-zeros
-    put-zeros-requires
-    same-length-2
-    returns-2)
+    (λ c κs. search needs)
+    (λ c. search needs)
+    returns-3)
