@@ -15,7 +15,7 @@ use Rattle.definition.proofs.Lists.{each-map, each-get}
 use Rattle.definition.specs.Graph.{Graph, edge}
 use Rattle.definition.specs.Trays.{rowNumber, padded, over}
 use Rattle.graph.specs.Drawn.{Drawn}
-use Rattle.trays.proofs.Writing.{Writing, written-none, writing-start, writing-one, writing-within, writing-end, padded-length}
+use Rattle.trays.proofs.Writing.{Writing, written-none, writing-start, writing-one, writing-end, padded-length}
 
 -- ---- one row
 abbrev pub rowOf : Graph → ℕ → List Bool
@@ -87,9 +87,6 @@ module _ (g : Graph) {n : ℕ} {a : List ℕ} (drawn : Drawn g n a) (square : le
     module _ (u : ℕ) {t : List ℕ} (p : Edges g lent u t) where
       pub edges-next : {x : ℕ} → u < 25 → x ≡ rowNumber (rowOf g u) → Edges g lent (u + 1) (set t u x)
       edges-next h e = rw e (writing-one p _ _ (left u h) (omega (arith, numbers-length)))
-
-      pub edges-within : u < 25 → u < length t
-      edges-within h = writing-within p _ _ (left u h) (omega (arith, numbers-length))
 
       pub edges-end : 25 ≤ u → t ≡ over (rowNumbers g) lent
       edges-end h = writing-end p (drop-of-length-le (rowNumbers g) {i = u} (omega (arith, numbers-length))) .cells

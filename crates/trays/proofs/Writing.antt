@@ -2,6 +2,7 @@
 use Prim.Native.Nat.{ℕ, suc, _+_, _-_, _/_, _%_, _≤_, _<_}
 use mathlib.Core.Path.{_≡_, refl, sym, ap, _∙_, subst}
 use mathlib.Core.List.{List, [], _∷_, _++_, append-assoc, append-nil}
+use mathlib.Core.Logic.{_⊎_, inl, inr}
 use native.Mathlib.Omega.{arith}
 use native.Mathlib.Numerals.{add-one}
 use native.Mathlib.Nat.{sub-zero}
@@ -91,12 +92,6 @@ module _ {goal rest lent t : List ℕ} {at : ℕ} (h : Writing goal rest lent at
   pub writing-one : (b : ℕ) (more : List ℕ) → rest ≡ b ∷ more → length goal ≤ length lent → Writing goal more lent (at + 1) (set t at b)
   writing-one b more e l = writing-next (puts-one b at t) e l
 
-  -- while something is left, the position is within the tray
-  pub writing-within : (b : ℕ) (more : List ℕ) → rest ≡ b ∷ more → length goal ≤ length lent → at < length t
-  writing-within b more e l =
-      let r = writing-room (b ∷ []) more e l in
-      omega (arith, r, h .written .ends, written-length (h .written) (omega arith))
-
 -- ---- zeros to an end
 pub padded-length : (n : ℕ) (s : List ℕ) → length s ≤ n → length (padded n s) ≡ n
 unfolding padded pad
@@ -124,8 +119,10 @@ module _ (end : ℕ) (w lent : List ℕ) (fits : length w ≤ end) (room : end �
     pub zeros-next : i < end → Zeros end w lent (i + 1) (set t i 0)
     zeros-next h = writing-one z 0 (replicate (end - (i + 1)) 0) (one-less i h) goal-fits
 
-    pub zeros-within : i < end → i < length t
-    zeros-within h = writing-within z 0 (replicate (end - (i + 1)) 0) (one-less i h) goal-fits
-
     pub zeros-end : end ≤ i → t ≡ over (padded end w) lent
     zeros-end h = let e : end - i ≡ 0 = omega arith in writing-end z (rw e) .cells
+
+-- ---- a tray that is long enough, and a count within the limit
+pub not-kept : {A : Type 0} {long need count most : ℕ} → need ≤ long → count ≤ most → (long < need) ⊎ (most < count) → A
+not-kept h g (inl k) = absurd (omega arith)
+not-kept h g (inr k) = absurd (omega arith)

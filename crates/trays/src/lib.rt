@@ -18,6 +18,7 @@ use tree::world_of;
 ghost use mathlib.Core.Path.{_≡_};
 ghost use mathlib.Core.Bool.{Bool, cond};
 ghost use mathlib.Core.List.{List, [], _∷_, map};
+ghost use mathlib.Core.Logic.{_⊎_};
 ghost use Prim.Native.Nat.{ℕ, _≤_, _<_, _/_, _%_};
 ghost use lib.ListN.{length, getD, replicate};
 ghost use Rattle.definition.specs.Limits.{nodeTrayLength, formulaTrayLength, edgeTrayLength};
@@ -65,9 +66,10 @@ fn put_two(tray: &mut [u8], at: usize, n: u16) -> usize
     put(tray, next, h)
 }
 
-// Zeros from a position to an end.
+// Zeros from a position to an end; a tray that is shorter is left.
 fn put_zeros(tray: &mut [u8], at: usize, end: usize)
-    ensures { λ r. ⌜ ((lent w : List ℕ) → Written lent w at (now (tray .entry)) → length w ≤ end → end ≤ length lent → now (tray .exit) ≡ over (padded end w) lent) ⌝ }
+    ensures { λ r. ⌜ ((lent w : List ℕ) → Written lent w at (now (tray .entry)) → length w ≤ end → end ≤ length lent → now (tray .exit) ≡ over (padded end w) lent)
+        × (length (now (tray .entry)) < end → now (tray .exit) ≡ now (tray .entry)) ⌝ }
 {
     if tray.len() < end {
         return;
@@ -156,9 +158,11 @@ fn append_node(tray: &mut [u8], at: usize, tree: &[u16; 4608], x: ProofTreeNodeI
 }
 
 // The node tray: the records in order of identifier, then zeros.
+// In a short tray, or of more nodes than the limit, nothing is written.
 pub fn write_nodes(tray: &mut [u8], tree: &[u16; 4608], len: usize)
     ensures { λ r. ⌜ ((ns : List Node) → length ns ≡ len → len ≤ 512 → now (tree .entry) ≡ lay ns → Each (λ (x : Node). x .world < 256) ns
-        → 6144 ≤ length (now (tray .entry)) → now (tray .exit) ≡ over (padded nodeTrayLength (concatMap nodeBytes ns)) (now (tray .entry))) ⌝ }
+        → 6144 ≤ length (now (tray .entry)) → now (tray .exit) ≡ over (padded nodeTrayLength (concatMap nodeBytes ns)) (now (tray .entry)))
+        × ((length (now (tray .entry)) < 6144) ⊎ (512 < len) → now (tray .exit) ≡ now (tray .entry)) ⌝ }
 {
     if tray.len() < 6144 {
         return;
@@ -197,9 +201,11 @@ fn put_formula(
 }
 
 // The formula tray: the records, then zeros.
+// In a short tray, or of more records than the limit, nothing is written.
 pub fn write_formulas(tray: &mut [u8], formulas: &[u16; 5120], count: usize)
     ensures { λ r. ⌜ ((rs : List Rec) → Recorded rs count (now (formulas .entry)) → count ≤ 1280 → Each (λ (r : Rec). r .mark < 256) rs
-        → 7680 ≤ length (now (tray .entry)) → now (tray .exit) ≡ over (padded formulaTrayLength (concatMap recordBytes rs)) (now (tray .entry))) ⌝ }
+        → 7680 ≤ length (now (tray .entry)) → now (tray .exit) ≡ over (padded formulaTrayLength (concatMap recordBytes rs)) (now (tray .entry)))
+        × ((length (now (tray .entry)) < 7680) ⊎ (1280 < count) → now (tray .exit) ≡ now (tray .entry)) ⌝ }
 {
     if tray.len() < 7680 {
         return;
@@ -233,30 +239,37 @@ fn edge_number(edges: &[u8; 625], worlds: usize, u: PossibleWorld) -> u32
 }
 
 // The edge tray: a number for each world, then zeros, since no edge starts at a number that is no world.
+// In a short tray, or of more worlds than the limit, nothing is written.
 pub fn write_edges(tray: &mut [u32], edges: &[u8; 625], worlds: usize)
     ensures { λ r. ⌜ ((g : Graph) → Drawn g worlds (now (edges .entry)) → length (g .rows) ≡ g .worlds → Each (λ (row : List Bool). length row ≡ g .worlds) (g .rows)
-        → 25 ≤ length (now (tray .entry)) → now (tray .exit) ≡ over (padded edgeTrayLength (map rowNumber (g .rows))) (now (tray .entry))) ⌝ }
+        → 25 ≤ length (now (tray .entry)) → now (tray .exit) ≡ over (padded edgeTrayLength (map rowNumber (g .rows))) (now (tray .entry)))
+        × ((length (now (tray .entry)) < 25) ⊎ (25 < worlds) → now (tray .exit) ≡ now (tray .entry)) ⌝ }
 {
+    if tray.len() < 25 {
+        return;
+    }
+    if 25 < worlds {
+        return;
+    }
     let mut u: usize = 0;
     while u < 25 {
-        if tray.len() <= u {
-            return;
-        }
         tray[u] = edge_number(edges, worlds, PossibleWorld(u as u16));
         u += 1;
     }
 }
 
-// The node and formula trays zeroed, to a length.
+// The node and formula trays zeroed, to a length; a tray that is shorter is left.
 pub fn clear(tray: &mut [u8], end: usize)
-    ensures { λ r. ⌜ (end ≤ length (now (tray .entry)) → now (tray .exit) ≡ over (replicate end 0) (now (tray .entry))) ⌝ }
+    ensures { λ r. ⌜ (end ≤ length (now (tray .entry)) → now (tray .exit) ≡ over (replicate end 0) (now (tray .entry)))
+        × (length (now (tray .entry)) < end → now (tray .exit) ≡ now (tray .entry)) ⌝ }
 {
     put_zeros(tray, 0, end);
 }
 
-// The edge tray zeroed.
+// The edge tray zeroed; a short tray is left.
 pub fn clear_edges(tray: &mut [u32])
-    ensures { λ r. ⌜ (25 ≤ length (now (tray .entry)) → now (tray .exit) ≡ over (replicate edgeTrayLength 0) (now (tray .entry))) ⌝ }
+    ensures { λ r. ⌜ (25 ≤ length (now (tray .entry)) → now (tray .exit) ≡ over (replicate edgeTrayLength 0) (now (tray .entry)))
+        × (length (now (tray .entry)) < 25 → now (tray .exit) ≡ now (tray .entry)) ⌝ }
 {
     if tray.len() < 25 {
         return;

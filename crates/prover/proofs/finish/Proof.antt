@@ -26,7 +26,7 @@ same-length-3 c = search needs
 returns : tie.Need-returns
 unfolding said
 returns c = λ s ra la va oa wa ca k e z.
-    ends-full _ k (c .before .before .before .before .before .before .before .before .before .before .before .before .if1 .taken) (c .before .before .before .before .before .before .before .before .before .before .clear .ensures (z .nodes)) (c .before .before .before .before .before .before .clear2 .ensures (z .formulas)) (c .before .before .clear-edges .ensures (z .edges))
+    ends-full _ k (c .before .before .before .before .before .before .before .before .before .before .before .before .if1 .taken) (c .before .before .before .before .before .before .before .before .before .before .clear .ensures .0 (z .nodes)) (c .before .before .before .before .before .before .clear2 .ensures .0 (z .formulas)) (c .before .before .clear-edges .ensures .0 (z .edges))
 
 write-nodes-requires : tie.Need-write-nodes-requires
 write-nodes-requires c κs = search needs
@@ -64,9 +64,9 @@ returns-2 c = λ s ra la va oa wa ca k e z.
     let l = kept-laid k (c .before .before .before .before .before .before .before .before .before .before .before .before .before .before .before .before .before .if1 .left) in
     let h = e (laid-ended l) in
     ends-laid _ l h
-    (c .before .before .before .before .before .before .before .before .before .before .before .before .before .before .before .write-nodes .ensures (s .nodes) (l .count) (c .before .before .before .before .before .before .before .before .before .before .before .before .before .before .before .before .before .if1 .left) (l .nodes) (h .worlds) (z .nodes))
-    (c .before .before .before .before .before .before .before .before .before .before .before .write-formulas .ensures (s .formulas) (l .formulas) (recorded-fits (l .formulas) (h .formulas)) (h .marks) (z .formulas))
-    (c .before .before .before .before .before .before .before .write-edges .ensures (s .graph) (l .graph) (h .rows) (h .columns) (z .edges))
+    (c .before .before .before .before .before .before .before .before .before .before .before .before .before .before .before .write-nodes .ensures .0 (s .nodes) (l .count) (c .before .before .before .before .before .before .before .before .before .before .before .before .before .before .before .before .before .if1 .left) (l .nodes) (h .worlds) (z .nodes))
+    (c .before .before .before .before .before .before .before .before .before .before .before .write-formulas .ensures .0 (s .formulas) (l .formulas) (recorded-fits (l .formulas) (h .formulas)) (h .marks) (z .formulas))
+    (c .before .before .before .before .before .before .before .write-edges .ensures .0 (s .graph) (l .graph) (h .rows) (h .columns) (z .edges))
     (c .before .before .before .narrow .ensures) (c .before .before .narrow2 .ensures) (c .before .narrow3 .ensures) (c .narrow4 .ensures)
 
 pub finish-spec : {M : Type 1} → statement M

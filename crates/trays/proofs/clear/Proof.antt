@@ -15,7 +15,7 @@ same-length : tie.Need-same-length
 same-length c = search needs
 
 returns : tie.Need-returns
-returns c = λ h. c .before .before .put-zeros .ensures _ [] (written-none _) (omega arith) h ∙ ap (λ (l : List ℕ). over l (c .before .before .before .before .before .args .tray .now)) (padded-none _)
+returns c = (λ h. c .before .before .put-zeros .ensures .0 _ [] (written-none _) (omega arith) h ∙ ap (λ (l : List ℕ). over l (c .before .before .before .before .before .args .tray .now)) (padded-none _), c .before .before .put-zeros .ensures .1)
 
 pub clear-spec : {M : Type 1} → statement M
 clear-spec = tie.close (tie.spec put-zeros-requires same-length returns)

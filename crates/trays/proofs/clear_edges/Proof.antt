@@ -1,6 +1,6 @@
 use borrow.Author.Needs.{needs}
 use Prim.Native.Nat.{ℕ, _≤_, _-_}
-use mathlib.Core.Path.{_≡_, _∙_, ap}
+use mathlib.Core.Path.{_≡_, refl, _∙_, ap}
 use mathlib.Core.List.{List, []}
 use native.Mathlib.Omega.{arith}
 use lib.ListN.{length}
@@ -16,7 +16,7 @@ abbrev μ-loop : tie.MeasureT-loop
 μ-loop tray₀ world₀ tray world = 25 - world
 
 returns : tie.Need-returns Inv-loop μ-loop
-returns c = λ r. absurd (omega (arith, c .if1 .taken))
+returns c = (λ r. absurd (omega (arith, c .if1 .taken)), λ z. refl)
 
 loop-holds : tie.Need-loop-holds Inv-loop μ-loop
 loop-holds c = (search needs, λ r. zeros-start 25 [] _ (omega arith) r (written-none _))
@@ -40,7 +40,7 @@ same-length : tie.Need-same-length Inv-loop μ-loop
 same-length c = search needs
 
 returns-2 : tie.Need-returns-2 Inv-loop μ-loop
-returns-2 c = λ r. zeros-end 25 [] _ (omega arith) r _ (c .before .loop .inv .1 r) (c .loop-test .left) ∙ ap (λ (l : List ℕ). over l (c .before .before .before .args .tray .now)) (padded-none 25)
+returns-2 c = (λ r. zeros-end 25 [] _ (omega arith) r _ (c .before .loop .inv .1 r) (c .loop-test .left) ∙ ap (λ (l : List ℕ). over l (c .before .before .before .args .tray .now)) (padded-none 25), λ z. absurd (omega (arith, c .before .before .if1 .left)))
 
 pub clear-edges-spec : {M : Type 1} → statement M
 clear-edges-spec =

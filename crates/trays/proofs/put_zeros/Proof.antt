@@ -1,6 +1,6 @@
 use borrow.Author.Needs.{needs}
 use Prim.Native.Nat.{ℕ, _≤_, _-_}
-use mathlib.Core.Path.{_≡_}
+use mathlib.Core.Path.{_≡_, refl}
 use mathlib.Core.List.{List}
 use native.Mathlib.Omega.{arith}
 use lib.ListN.{length}
@@ -16,7 +16,7 @@ abbrev μ-loop : tie.MeasureT-loop
 μ-loop tray₀ at end i₀ tray i = end - i
 
 returns : tie.Need-returns Inv-loop μ-loop
-returns c = λ lent w h f r. absurd (omega (arith, c .if1 .taken, written-length h (omega arith)))
+returns c = (λ lent w h f r. absurd (omega (arith, c .if1 .taken, written-length h (omega arith))), λ z. refl)
 
 loop-holds : tie.Need-loop-holds Inv-loop μ-loop
 loop-holds c = (search needs, λ lent w h f r. zeros-start _ w lent f r h)
@@ -37,7 +37,7 @@ same-length : tie.Need-same-length Inv-loop μ-loop
 same-length c = search needs
 
 returns-2 : tie.Need-returns-2 Inv-loop μ-loop
-returns-2 c = λ lent w h f r. zeros-end _ w lent f r _ (c .before .loop .inv .1 lent w h f r) (c .loop-test .left)
+returns-2 c = (λ lent w h f r. zeros-end _ w lent f r _ (c .before .loop .inv .1 lent w h f r) (c .loop-test .left), λ z. absurd (omega (arith, c .before .before .if1 .left)))
 
 pub put-zeros-spec : {M : Type 1} → statement M
 put-zeros-spec =

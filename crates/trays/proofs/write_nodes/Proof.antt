@@ -1,6 +1,6 @@
 use borrow.Author.Needs.{needs}
 use Prim.Native.Nat.{_≤_, _<_, _-_}
-use mathlib.Core.Path.{_≡_}
+use mathlib.Core.Path.{_≡_, refl}
 use mathlib.Core.List.{List}
 use native.Mathlib.Omega.{arith}
 use lib.ListN.{length}
@@ -11,6 +11,7 @@ use Rattle.definition.proofs.Nodes.{blank}
 use Rattle.tree.specs.Lay.{lay}
 use Rattle.definition.proofs.Lists.{each-get}
 use Rattle.definition.proofs.TraysKept.{length-parts, node-length}
+use Rattle.trays.proofs.Writing.{not-kept}
 use Rattle.trays.proofs.Parts.{Parts, parts-start, parts-next, parts-end}
 use Rattle.trays.proofs.write_nodes.Statement.{statement}
 use Rattle.trays.proofs.write_nodes.Tie as tie
@@ -22,10 +23,10 @@ abbrev μ-loop : tie.MeasureT-loop
 μ-loop tray₀ tree len at₀ i₀ tray at i = len - i
 
 returns : tie.Need-returns Inv-loop μ-loop
-returns c = λ ns e l q h r. absurd (omega (arith, c .if1 .taken))
+returns c = (λ ns e l q h r. absurd (omega (arith, c .if1 .taken)), λ z. refl)
 
 returns-2 : tie.Need-returns-2 Inv-loop μ-loop
-returns-2 c = λ ns e l q h r. absurd (omega (arith, c .if2 .taken))
+returns-2 c = (λ ns e l q h r. absurd (omega (arith, c .if2 .taken)), λ z. refl)
 
 loop-holds : tie.Need-loop-holds Inv-loop μ-loop
 loop-holds c = (search needs, λ ns e q h. parts-start nodeBytes 12 node-length ns _)
@@ -34,7 +35,7 @@ loop-again : tie.Need-loop-again Inv-loop μ-loop
 loop-again c = (search needs, λ ns e q h. let i = c .before .before .before .before .before .loop .i in let low : i < length ns = omega (arith, c .before .before .before .before .loop-test .taken) in parts-next nodeBytes 12 node-length ns _ i (c .before .before .before .before .before .loop .inv .1 ns e q h) blank (omega arith) low (c .before .before .append-node .ensures ns (omega arith) q (each-get (λ (x : Node). x .world < 256) ns blank h i (λ g. absurd (omega arith)))))
 
 returns-3 : tie.Need-returns-3 Inv-loop μ-loop
-returns-3 c = λ ns e l q h r. c .before .before .put-zeros .ensures (c .before .before .before .before .before .before .before .before .before .args .tray .now) (concatMap nodeBytes ns) (parts-end nodeBytes 12 node-length ns _ (c .before .before .before .before .before .loop .i) (c .before .before .before .before .before .loop .inv .1 ns e q h) (omega (arith, c .before .before .before .before .loop-test .left))) (omega (arith, length-parts 12 nodeBytes node-length ns)) r
+returns-3 c = (λ ns e l q h r. c .before .before .put-zeros .ensures .0 (c .before .before .before .before .before .before .before .before .before .args .tray .now) (concatMap nodeBytes ns) (parts-end nodeBytes 12 node-length ns _ (c .before .before .before .before .before .loop .i) (c .before .before .before .before .before .loop .inv .1 ns e q h) (omega (arith, c .before .before .before .before .loop-test .left))) (omega (arith, length-parts 12 nodeBytes node-length ns)) r, not-kept (c .before .before .before .before .before .before .before .if1 .left) (c .before .before .before .before .before .before .if2 .left))
 
 pub write-nodes-spec : {M : Type 1} → statement M
 write-nodes-spec =
