@@ -99,9 +99,9 @@ module _ {ns : List Necessity} {count : ℕ} {o r a v : List ℕ} (s : Stack ns 
   pub stack-count : length ns ≡ count
   stack-count = rows-count r a v ns (s .ks) (s .stored) ∙ s .counted
 
-  pub stack-read : (i x : ℕ) → i < count → ((l : List ℕ) (n : ℕ) → Listed l n o → n ≤ 512 → count - 1 - i < n → x ≡ getD l (count - 1 - i) 0) → x ≡ getD (s .ks) i 0
+  pub stack-read : (i x : ℕ) → i < count → ((l : List ℕ) (n : ℕ) → Listed l n o → n ≤ 512 → x ≡ getD l (count - 1 - i) 0) → x ≡ getD (s .ks) i 0
   stack-read i x h nth =
-      nth (reverse (s .ks)) count (s .listed) (s .room) (omega arith) ∙ get-reverse (s .ks) i (count - 1 - i) (omega (arith, s .counted))
+      nth (reverse (s .ks)) count (s .listed) (s .room) ∙ get-reverse (s .ks) i (count - 1 - i) (omega (arith, s .counted))
 
 -- ---- one necessity more, by the callees' contracts
 module _ (k f w x : ℕ) (r : List ℕ) (inside : k < 512) (long : length r ≡ 1536) where

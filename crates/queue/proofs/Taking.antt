@@ -114,9 +114,9 @@ module _ (rs : List Rec) (ns : List Node) (q : List ℕ) {n : ℕ} {a : List ℕ
   search-end k z e = sym e ∙ class-end rs ns q k z ∙ sym (taken-out q n (omega (arith, many)))
 
   -- v is read at position i
-  module _ (k i v : ℕ) (h : i < n) (e : fromPlace rs ns q k i ≡ D.pop rs ns q) (read : (l : List ℕ) (m : ℕ) → Listed l m a → m ≤ 512 → i < m → v ≡ getD l i 0) where
+  module _ (k i v : ℕ) (h : i < n) (e : fromPlace rs ns q k i ≡ D.pop rs ns q) (read : (l : List ℕ) (m : ℕ) → Listed l m a → m ≤ 512 → v ≡ getD l i 0) where
     seen : v ≡ D.getNodePriority rs ns (getD q i 0)
-    seen = read _ n l g h ∙ get-map (D.getNodePriority rs ns) q i (omega (arith, many, h))
+    seen = read _ n l g ∙ get-map (D.getNodePriority rs ns) q i (omega (arith, many, h))
 
     pub search-hit : v ≡ k → D.pop rs ns q ≡ takenAt q i
     search-hit z = sym e ∙ place-hit rs ns q k i (omega (arith, many)) (sym seen ∙ z)

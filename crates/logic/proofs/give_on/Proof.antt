@@ -56,7 +56,7 @@ loop-again c = (
   λ t more fk n ws ls rs s f w m low l k seen h i.
       let g = c .before .before .before .before .before .before .before .before .loop .inv .1 t more fk n ws ls rs s f w m low l k seen h i in
       let up = c .before .before .before .before .before .before .before .loop-test .taken in
-      let leaf = c .before .before .before .before .before .before .nth .ensures ls _ l k up in
+      let leaf = c .before .before .before .before .before .before .nth .ensures .0 ls _ l k in
       giving-entry t fk n ws ls l k up leaf s f g
       (c .before .before .before .give-on-leaf .ensures .1 (t ++ g .more) (occurs t fk (path t (c .before .before .before .before .before .before .nth .result))) ws w m low (seen-entry t fk ls _ (c .before .before .before .before .before .before .before .before .loop .j) _ _ seen (omega (arith, up, listed-count l k)) leaf (c .before .before .before .before .before .word-at .ensures)))
       (λ rs′ rows small. let drawn = c .before .before .before .give-on-leaf .ensures .0 small in listing-one _ drawn (c .push-item .ensures rs′ _ _ rows drawn)),

@@ -44,7 +44,7 @@ loop-less : tie.Need-loop-less Inv-loop μ-loop
 loop-less c = search needs
 
 loop-again : tie.Need-loop-again Inv-loop μ-loop
-loop-again c = (search needs, c .extend-if .ensures .0 _ (c .before .before .before .before .before .loop .inv .1), λ ns p ws l h low has q. let a = c .before .before .before .before .before .before .args in give-next ns (newNode (a .spawner .0) (a .formula .0)) p ws (a .here) (c .before .before .before .before .before .loop .j) _ (omega (arith, listed-count l h, c .before .before .before .before .loop-test .taken)) (c .before .before .before .nth .ensures ws _ l h (c .before .before .before .before .loop-test .taken)) low has (c .before .before .bit .ensures) (c .before .before .before .before .before .loop .inv .2 ns p ws l h low has q) (c .extend-if .ensures .1))
+loop-again c = (search needs, c .extend-if .ensures .0 _ (c .before .before .before .before .before .loop .inv .1), λ ns p ws l h low has q. let a = c .before .before .before .before .before .before .args in give-next ns (newNode (a .spawner .0) (a .formula .0)) p ws (a .here) (c .before .before .before .before .before .loop .j) _ (omega (arith, listed-count l h, c .before .before .before .before .loop-test .taken)) (c .before .before .before .nth .ensures .0 ws _ l h) low has (c .before .before .bit .ensures) (c .before .before .before .before .before .loop .inv .2 ns p ws l h low has q) (c .extend-if .ensures .1))
 
 returns : tie.Need-returns Inv-loop μ-loop
 returns c = (c .before .loop .inv .1, λ ns p ws l h low has q. let a = c .before .before .args in give-end ns (newNode (a .spawner .0) (a .formula .0)) p ws (c .before .loop .j) (omega (arith, listed-count l h, c .loop-test .left)) (c .before .loop .inv .2 ns p ws l h low has q))

@@ -40,7 +40,7 @@ loop-less : tie.Need-loop-less Inv-loop μ-loop
 loop-less c = search needs
 
 loop-again : tie.Need-loop-again Inv-loop μ-loop
-loop-again c = (search needs, λ t s ls l d r a h p. fill-next (through t s) ls l _ _ (omega (arith, listed-count a h, c .before .before .before .before .loop-test .taken)) (c .before .before .before .nth .ensures ls _ a h (c .before .before .before .before .loop-test .taken)) (c .before .before .path-runs-through .ensures t s d r) (c .before .before .before .before .before .loop .inv .1 t s ls l d r a h p) (c .push-if .ensures))
+loop-again c = (search needs, λ t s ls l d r a h p. fill-next (through t s) ls l _ _ (omega (arith, listed-count a h, c .before .before .before .before .loop-test .taken)) (c .before .before .before .nth .ensures .0 ls _ a h) (c .before .before .path-runs-through .ensures t s d r) (c .before .before .before .before .before .loop .inv .1 t s ls l d r a h p) (c .push-if .ensures))
 
 returns : tie.Need-returns Inv-loop μ-loop
 returns c = λ t s ls l d r a h p. fill-end (through t s) ls l (c .before .loop .j) (omega (arith, listed-count a h, c .loop-test .left)) (c .before .loop .inv .1 t s ls l d r a h p)

@@ -38,7 +38,7 @@ loop-less : tie.Need-loop-less Inv-loop μ-loop
 loop-less c = search needs
 
 loop-again : tie.Need-loop-again Inv-loop μ-loop
-loop-again c = (search needs, λ t ls d l small low long. seen-next t (forkOf (c .before .before .before .before .before .before .args .forking)) ls l small _ _ (c .before .before .before .before .before .loop .j) _ _ low (c .before .before .before .before .loop-test .taken) (c .before .before .before .nth .ensures ls _ l small (c .before .before .before .before .loop-test .taken)) (c .before .before .worlds-on .ensures t d) (c .put-word .ensures) (c .before .before .before .before .before .loop .inv .1 t ls d l small low long))
+loop-again c = (search needs, λ t ls d l small low long. seen-next t (forkOf (c .before .before .before .before .before .before .args .forking)) ls l small _ _ (c .before .before .before .before .before .loop .j) _ _ low (c .before .before .before .before .loop-test .taken) (c .before .before .before .nth .ensures .0 ls _ l small) (c .before .before .worlds-on .ensures t d) (c .put-word .ensures) (c .before .before .before .before .before .loop .inv .1 t ls d l small low long))
 
 returns : tie.Need-returns Inv-loop μ-loop
 returns c = λ t ls d l small low long. seen-end t (forkOf (c .before .before .args .forking)) ls l small _ _ (c .loop-test .left) (c .before .loop .inv .1 t ls d l small low long .1)

@@ -43,7 +43,7 @@ loop-less : tie.Need-loop-less Inv-loop μ-loop
 loop-less c = search needs
 
 loop-again : tie.Need-loop-again Inv-loop μ-loop
-loop-again c = (search needs, λ l p h e. insert-next _ _ _ _ (c .before .before .before .before .before .if1 .left) (c .before .before .before .loop-test .taken) p h e (c .before .before .nth .ensures l _ p h (c .before .before .before .loop-test .taken)) (c .insert .ensures) (c .before .before .before .before .loop .inv .1 l p h e))
+loop-again c = (search needs, λ l p h e. insert-next _ _ _ _ (c .before .before .before .before .before .if1 .left) (c .before .before .before .loop-test .taken) p h e (c .before .before .nth .ensures .0 l _ p h) (c .insert .ensures) (c .before .before .before .before .loop .inv .1 l p h e))
 
 returns-2 : tie.Need-returns-2 Inv-loop μ-loop
 returns-2 c = λ l p h e. insert-end _ _ (c .loop-test .left) p h (c .before .loop .inv .1 l p h e)

@@ -19,7 +19,7 @@ cast-result : tie.Need-cast-result
 cast-result c = search needs
 
 returns-2 : tie.Need-returns-2
-returns-2 c = λ ns r a v s h. stack-read s _ _ h (c .nth .ensures)
+returns-2 c = λ ns r a v s h. stack-read s _ _ h (c .nth .ensures .0)
 
 pub row-at-spec : {M : Type 1} → statement M
 row-at-spec = tie.close (tie.spec returns sub-nth sub-nth-2 nth-requires cast-result returns-2)

@@ -34,7 +34,7 @@ loop-less : tie.Need-loop-less Inv-loop μ-loop
 loop-less c = search needs
 
 loop-again : tie.Need-loop-again Inv-loop μ-loop
-loop-again c = (search needs, λ old l p h e d. words-next old p h _ _ _ _ (c .before .before .loop-test .taken) e (c .before .nth .ensures l _ p h (c .before .before .loop-test .taken)) (c .with-bit .ensures) (c .before .before .before .loop .inv .1 old l p h e d))
+loop-again c = (search needs, λ old l p h e d. words-next old p h _ _ _ _ (c .before .before .loop-test .taken) e (c .before .nth .ensures .0 l _ p h) (c .with-bit .ensures) (c .before .before .before .loop .inv .1 old l p h e d))
 
 returns : tie.Need-returns Inv-loop μ-loop
 returns c = λ old l p h e d. words-end old p h _ _ (c .loop-test .left) (c .before .loop .inv .1 old l p h e d)

@@ -46,7 +46,7 @@ loop-again c = λ rs ns q more p b h e l g z k.
     let inv = c .before .before .before .before .before .loop .inv rs ns q more p b h e l g z k in
     let low = c .before .before .before .before .loop-test .taken in (
       omega (arith, low),
-      classing-next (D.getNodePriority rs ns) (q ++ more) _ _ _ (omega (arith, listed-count l g, low)) (omega (arith, low, g)) (inv .1) (c .before .before .before .nth .ensures (q ++ more) _ l g low)
+      classing-next (D.getNodePriority rs ns) (q ++ more) _ _ _ (omega (arith, listed-count l g, low)) (omega (arith, low, g)) (inv .1) (c .before .before .before .nth .ensures .0 (q ++ more) _ l g)
           (c .before .before .get-node-priority .ensures rs ns p b h e) (c .push .ensures),
     )
 

@@ -39,7 +39,7 @@ loop-less : tie.Need-loop-less Inv-loop μ-loop Inv-classes μ-classes
 loop-less c = search needs
 
 loop-again : tie.Need-loop-again Inv-loop μ-loop Inv-classes μ-classes
-loop-again c = (search needs, λ rs ns q l g. search-miss rs ns q l g _ _ _ (c .before .before .loop-test .taken) (c .before .before .before .loop .inv .1 rs ns q l g) (c .before .nth .ensures) (c .if2 .left))
+loop-again c = (search needs, λ rs ns q l g. search-miss rs ns q l g _ _ _ (c .before .before .loop-test .taken) (c .before .before .before .loop .inv .1 rs ns q l g) (c .before .nth .ensures .0) (c .if2 .left))
 
 add-class : tie.Need-add-class Inv-loop μ-loop Inv-classes μ-classes
 add-class c = search needs
@@ -54,7 +54,7 @@ returns : tie.Need-returns Inv-loop μ-loop Inv-classes μ-classes
 returns c = λ rs ns q l g. search-end rs ns q l g _ (c .if1 .taken) (c .before .classes .inv .1 rs ns q l g)
 
 returns-2 : tie.Need-returns-2 Inv-loop μ-loop Inv-classes μ-classes
-returns-2 c = λ rs ns q l g. search-hit rs ns q l g _ _ _ (c .before .before .loop-test .taken) (c .before .before .before .loop .inv .1 rs ns q l g) (c .before .nth .ensures) (c .if2 .taken)
+returns-2 c = λ rs ns q l g. search-hit rs ns q l g _ _ _ (c .before .before .loop-test .taken) (c .before .before .before .loop .inv .1 rs ns q l g) (c .before .nth .ensures .0) (c .if2 .taken)
 
 pub first-urgent-spec : {M : Type 1} → statement M
 first-urgent-spec =

@@ -35,7 +35,7 @@ loop-less : tie.Need-loop-less Inv-loop μ-loop
 loop-less c = search needs
 
 loop-again : tie.Need-loop-again Inv-loop μ-loop
-loop-again c = λ ns q ls p f w i h. copies-next (c .before .before .before .before .before .before .args .s) ls (c .before .before .before .before .before .loop .k) _ (omega (arith, listed-count i h, c .before .before .before .before .loop-test .taken)) (c .before .before .before .nth .ensures ls _ i h (c .before .before .before .before .loop-test .taken)) w (c .before .before .before .before .before .loop .inv ns q ls p f w i h) (c .append-copy .ensures)
+loop-again c = λ ns q ls p f w i h. copies-next (c .before .before .before .before .before .before .args .s) ls (c .before .before .before .before .before .loop .k) _ (omega (arith, listed-count i h, c .before .before .before .before .loop-test .taken)) (c .before .before .before .nth .ensures .0 ls _ i h) w (c .before .before .before .before .before .loop .inv ns q ls p f w i h) (c .append-copy .ensures)
 
 returns : tie.Need-returns Inv-loop μ-loop
 returns c = λ ns q ls p f w i h. copies-end (c .before .before .args .s) ls (c .before .loop .k) (omega (arith, listed-count i h, c .loop-test .left)) (c .before .loop .inv ns q ls p f w i h)
