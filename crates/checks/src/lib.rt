@@ -55,9 +55,9 @@ fn field(branch: &[u8], low: usize, high: usize) -> u16
     byte(branch, low) + 256 * byte(branch, high)
 }
 
-// Record number i, of the first 256.
+// Record number i, of the first 256; zeros of a later one.
 pub fn record_at(branch: &[u8], i: usize) -> Record
-    ensures { λ r. ⌜ (i < 256 → recordOf r ≡ recordAt (now (branch .entry)) i) ⌝ }
+    ensures { λ r. ⌜ (i < 256 → recordOf r ≡ recordAt (now (branch .entry)) i) × (256 ≤ i → r ≡ record { kind = 0; mark = 0; left = 0; right = 0 }) ⌝ }
 {
     if 256 <= i {
         return Record {

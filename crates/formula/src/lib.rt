@@ -3,7 +3,7 @@
 ghost use mathlib.Core.Path.{_≡_};
 ghost use mathlib.Core.List.{List, [], _∷_, _++_};
 ghost use Prim.Native.Nat.{ℕ, _≤_, _<_};
-ghost use Rattle.definition.specs.Records.{Rec, Non, Imply, Possible, Necessary, made, numberOf, kindOf, recAt, formulaOf};
+ghost use Rattle.definition.specs.Records.{nobody, Rec, Non, Imply, Possible, Necessary, made, numberOf, kindOf, recAt, formulaOf};
 ghost use Rattle.definition.specs.Queue.{priorityOf};
 ghost use Rattle.formula.specs.Priority.{priorityBy};
 ghost use Rattle.formula.specs.Recorded.{Recorded, column, missing, row};
@@ -11,9 +11,9 @@ ghost use Rattle.formula.specs.Recorded.{Recorded, column, missing, row}
 // The number of a formula: an input record or one that a rule made; 65535 is a comment's.
 pub struct FormulaNumber(pub u16);
 
-// The number of the next record that is made.
+// The number of the next record that is made; 65535 where there are too many.
 pub fn next_formula(count: usize) -> FormulaNumber
-    ensures { λ r. ⌜ (count ≤ 1280 → r .0 ≡ count) ⌝ }
+    ensures { λ r. ⌜ (count ≤ 1280 → r .0 ≡ count) × (1280 < count → r .0 ≡ nobody) ⌝ }
 {
     if 1280 < count {
         return FormulaNumber(65535);

@@ -44,7 +44,7 @@ loop-less c = search needs
 
 loop-again : tie.Need-loop-again Inv-loop μ-loop
 unfolding recordOf
-loop-again c = (search needs, λ p. reading-next _ (c .before .before .before .before .before .before .loop .inv .1 p) _ (c .before .before .before .before .before .loop-test .taken) (c .before .before .record-at .ensures (c .before .before .before .before .if1 .left)) (c .push-input .ensures))
+loop-again c = (search needs, λ p. reading-next _ (c .before .before .before .before .before .before .loop .inv .1 p) _ (c .before .before .before .before .before .loop-test .taken) (c .before .before .record-at .ensures .0 (c .before .before .before .before .if1 .left)) (c .push-input .ensures))
 
 returns-3 : tie.Need-returns-3 Inv-loop μ-loop
 returns-3 c = λ few p. reading-end _ (c .before .loop .inv .1 p) (c .loop-test .left)

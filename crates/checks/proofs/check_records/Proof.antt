@@ -50,7 +50,7 @@ is-refusal-requires : tie.Need-is-refusal-requires Inv-loop μ-loop
 is-refusal-requires c κs = search needs
 
 returns-3 : tie.Need-returns-3 Inv-loop μ-loop
-returns-3 c = λ e h. reading-refused (c .before .before .before .before .before .before .before .before .before .loop .inv .1 e h) (omega (arith, c .before .before .before .before .before .before .before .before .loop-test .taken)) (c .before .before .before .before .before .before .before .if1 .left) _ _ _ (c .before .before .before .before .before .record-at .ensures) (c .before .before .before .expanded-size .ensures) (c .before .before .check-record .ensures .0) (sym (c .before .is-refusal .ensures) ∙ c .if3 .taken)
+returns-3 c = λ e h. reading-refused (c .before .before .before .before .before .before .before .before .before .loop .inv .1 e h) (omega (arith, c .before .before .before .before .before .before .before .before .loop-test .taken)) (c .before .before .before .before .before .before .before .if1 .left) _ _ _ (c .before .before .before .before .before .record-at .ensures .0) (c .before .before .before .expanded-size .ensures) (c .before .before .check-record .ensures .0) (sym (c .before .is-refusal .ensures) ∙ c .if3 .taken)
 
 cast-sizes : tie.Need-cast-sizes Inv-loop μ-loop
 cast-sizes c = omega (arith, c .before .before .check-record .ensures .1 (sym (c .before .is-refusal .ensures) ∙ c .if3 .left))
@@ -68,7 +68,7 @@ loop-less : tie.Need-loop-less Inv-loop μ-loop
 loop-less c = search needs
 
 loop-again : tie.Need-loop-again Inv-loop μ-loop
-loop-again c = (search needs, λ e h. reading-next (c .before .before .before .before .before .before .before .before .before .loop .inv .1 e h) (omega (arith, c .before .before .before .before .before .before .before .before .loop-test .taken)) (c .before .before .before .before .before .before .before .if1 .left) _ _ _ (c .before .before .before .before .before .record-at .ensures) (c .before .before .before .expanded-size .ensures) (c .before .before .check-record .ensures .0) (sym (c .before .is-refusal .ensures) ∙ c .if3 .left))
+loop-again c = (search needs, λ e h. reading-next (c .before .before .before .before .before .before .before .before .before .loop .inv .1 e h) (omega (arith, c .before .before .before .before .before .before .before .before .loop-test .taken)) (c .before .before .before .before .before .before .before .if1 .left) _ _ _ (c .before .before .before .before .before .record-at .ensures .0) (c .before .before .before .expanded-size .ensures) (c .before .before .check-record .ensures .0) (sym (c .before .is-refusal .ensures) ∙ c .if3 .left))
 
 accepted-requires-3 : tie.Need-accepted-requires-3 Inv-loop μ-loop
 accepted-requires-3 c κs = search needs

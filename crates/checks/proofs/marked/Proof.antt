@@ -36,7 +36,7 @@ loop-again : tie.Need-loop-again Inv-loop μ-loop
 loop-again c = (
   search needs,
   ⊎-elim (λ w. omega arith) (λ w. omega arith) (c .if2 .came),
-  λ e h. counting-next (c .before .before .before .before .before .loop .inv .2 e h) (omega (arith, c .before .before .before .before .loop-test .taken)) (c .before .before .before .if1 .left) _ (c .before .before .record-at .ensures) _ (⊎-elim (λ w. inl (w .0 .taken, w .1)) (λ w. inr (w .0 .left, w .1)) (c .if2 .came)),
+  λ e h. counting-next (c .before .before .before .before .before .loop .inv .2 e h) (omega (arith, c .before .before .before .before .loop-test .taken)) (c .before .before .before .if1 .left) _ (c .before .before .record-at .ensures .0) _ (⊎-elim (λ w. inl (w .0 .taken, w .1)) (λ w. inr (w .0 .left, w .1)) (c .if2 .came)),
 )
 
 returns-2 : tie.Need-returns-2 Inv-loop μ-loop

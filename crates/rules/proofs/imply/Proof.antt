@@ -13,7 +13,7 @@ non-requires c κs = search needs
 
 returns : tie.Need-returns
 unfolding expansionBy
-returns c = λ rs h. expands-one _ h _ (c .before .before .next-formula .ensures) (c .non .ensures) refl (λ m. rw m refl)
+returns c = λ rs h. expands-one _ h _ (c .before .before .next-formula .ensures .0) (c .non .ensures) refl (λ m. rw m refl)
 
 pub imply-spec : {M : Type 1} → statement M
 imply-spec = tie.close (tie.spec next-formula-requires non-requires returns)

@@ -7,7 +7,7 @@ use Rattle.rules.proofs.non_and.Tie as tie
 
 returns : tie.Need-returns
 unfolding nonExpansion
-returns c = λ rs h. expands-two _ h _ (c .before .before .before .before .before .next-formula .ensures) (c .before .before .before .non .ensures) _ (c .before .before .next-formula2 .ensures) (c .non2 .ensures) (λ m. refl) (λ m s. rw (m, s) refl)
+returns c = λ rs h. expands-two _ h _ (c .before .before .before .before .before .next-formula .ensures .0) (c .before .before .before .non .ensures) _ (c .before .before .next-formula2 .ensures .0) (c .non2 .ensures) (λ m. refl) (λ m s. rw (m, s) refl)
 
 pub non-and-spec : {M : Type 1} → statement M
 non-and-spec =

@@ -13,7 +13,7 @@ imply-requires c κs = search needs
 
 returns : tie.Need-returns
 unfolding expansionBy
-returns c = λ rs h. expands-one _ h _ (c .before .before .next-formula .ensures) (c .imply .ensures) refl (λ m. rw m refl)
+returns c = λ rs h. expands-one _ h _ (c .before .before .next-formula .ensures .0) (c .imply .ensures) refl (λ m. rw m refl)
 
 pub strict-imply-spec : {M : Type 1} → statement M
 strict-imply-spec = tie.close (tie.spec next-formula-requires imply-requires returns)
