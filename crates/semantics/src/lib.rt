@@ -143,15 +143,3 @@ pub fn contradicts(c: Claim, formulas: &[u16; 5120], count: usize, g: FormulaNum
     }
     opposed(said(formulas, count, g), denies)
 }
-
-pub fn are_formulas_contradictory(
-    formulas: &[u16; 5120],
-    count: usize,
-    f: FormulaNumber,
-    g: FormulaNumber,
-) -> bool
-    ensures { λ r. ⌜ ((rs : List Rec) → Recorded rs count (now (formulas .entry)) → count ≤ 1280 → r ≡ areFormulasContradictory rs (formulaOf rs (f .0)) (formulaOf rs (g .0))) ⌝ }
-{
-    let c = claim_of(formulas, count, f);
-    contradicts(c, formulas, count, g)
-}
