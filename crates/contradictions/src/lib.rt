@@ -43,7 +43,7 @@ pub enum Contradiction {
 }
 
 // Whether a pair was found.
-pub fn is_pair(c: Contradiction) -> bool
+fn is_pair(c: Contradiction) -> bool
     ensures { λ r. ⌜ r ≡ isPair (found c) ⌝ }
 {
     match c {
@@ -143,7 +143,7 @@ fn find_earlier(
 }
 
 // The pair of the path of a new leaf: from the leaf upward, as long as the nodes are new.
-pub fn get_contradictory_node_ids(
+fn get_contradictory_node_ids(
     formulas: &[u16; 5120],
     count: usize,
     tree: &[u16; 4608],
@@ -174,7 +174,7 @@ pub fn get_contradictory_node_ids(
 }
 
 // The later node of a pair is marked against the earlier.
-pub fn mark_pair(tree: &mut [u16; 4608], len: usize, c: Contradiction)
+fn mark_pair(tree: &mut [u16; 4608], len: usize, c: Contradiction)
     ensures { λ r. ⌜ ((ns : List Node) → Held ns len (now (tree .entry)) → Held (mark ns (found c)) len (now (tree .exit))) ⌝ }
 {
     match c {

@@ -107,7 +107,7 @@ pub fn push_input(
 }
 
 // One record more that a rule makes.
-pub fn push_record(
+fn push_record(
     formulas: &mut [u16; 5120],
     count: usize,
     kind: u16,

@@ -79,7 +79,7 @@ fn put_row(
 }
 
 // Puts the listed numbers, each below 512, into row k.
-pub fn insert_all(words: &mut [u32; 8192], k: usize, list: &[u16; 512], m: usize)
+fn insert_all(words: &mut [u32; 8192], k: usize, list: &[u16; 512], m: usize)
     ensures { λ r. ⌜ ((l : List ℕ) → Listed l m (now (list .entry)) → m ≤ 512 → Each (λ x. x < 512) l → Added k l (now (words .entry)) (now (words .exit))) ⌝ }
 {
     if 512 <= k {
@@ -153,7 +153,7 @@ pub fn visit(visited: &mut [u32; 512], k: usize, list: &[u16; 512], m: usize)
 }
 
 // The first n entries in the opposite order.
-pub fn reverse(a: &mut [u16; 512], n: usize)
+fn reverse(a: &mut [u16; 512], n: usize)
     ensures { λ r. ⌜ ((l : List ℕ) → Listed l n (now (a .entry)) → Listed (reverse l) n (now (a .exit))) ⌝ }
 {
     if 512 < n {

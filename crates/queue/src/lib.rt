@@ -29,7 +29,7 @@ pub enum Popped {
 }
 
 // The class of a node: 0 is first, 1 in the middle, 2 last.
-pub fn get_node_priority(
+fn get_node_priority(
     formulas: &[u16; 5120],
     count: usize,
     tree: &[u16; 4608],
@@ -65,7 +65,7 @@ pub fn classify(
 }
 
 // The position of the first waiting node of the most urgent class; n where none waits.
-pub fn first_urgent(classes: &[u16; 512], n: usize) -> usize
+fn first_urgent(classes: &[u16; 512], n: usize) -> usize
     ensures { λ r. ⌜ ((rs : List Rec) (ns : List Node) (q : List ℕ) → Listed (map (getNodePriority rs ns) q) n (now (classes .entry)) → n ≤ 512 → pop rs ns q ≡ takenAt q r) ⌝ }
 {
     let mut class: u16 = 0;
