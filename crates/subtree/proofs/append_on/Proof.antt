@@ -22,13 +22,8 @@ append-copies-requires c κs = search needs
 returns-2 : tie.Need-returns-2
 returns-2 c = λ ns q ls p f w l g.
     let s = c .before .before .before .before .before .before .before .before .before .args .s in
-<<<<<<< HEAD
-    on-some s ns q ls l g _ (c .before .before .before .before .before .before .if1 .left) (c .before .before .before .before .before .nth .ensures ls _ l g (pos-of-ne-zero (c .before .before .before .before .before .before .if1 .left)))
-    (c .append-copies .ensures _ _ ls (c .before .before .before .append-subtree-on-leaf .ensures ns p (λ _. w)) (λ h. c .before .before .before .before .before .before .before .push-subtree .ensures q (f h) (within-fits s h p w)) (within-hung s ns _ _ w) l g)
-=======
     on-some s ns q ls l g _ (c .before .before .before .before .before .before .if1 .left) (c .before .before .before .before .before .nth .ensures .0 ls _ l g)
-    (c .append-copies .ensures _ _ ls (c .before .before .before .append-subtree-on-leaf .ensures ns p w) (λ h. c .before .before .before .before .before .before .before .push-subtree .ensures q (f h) (within-fits s h p w)) (within-hung s ns _ _ w) l g)
->>>>>>> 0e76f37 (Arrays: nth says its outcome for every position, and asks no bound of it)
+    (c .append-copies .ensures _ _ ls (c .before .before .before .append-subtree-on-leaf .ensures ns p (λ _. w)) (λ h. c .before .before .before .before .before .before .before .push-subtree .ensures q (f h) (within-fits s h p w)) (within-hung s ns _ _ w) l g)
 
 pub append-on-spec : {M : Type 1} → statement M
 append-on-spec = tie.close (tie.spec push-subtree-requires returns nth-requires append-subtree-on-leaf-requires append-copies-requires returns-2)
