@@ -7,12 +7,12 @@ use Prim.Native.Nat.{ℕ, zero, suc, _<_, _≤_, _+_, _/_}
 use native.Mathlib.Omega.{arith}
 use native.Mathlib.Nat.{add-zero}
 use lib.Dec.{ltb, leb}
-use borrow.Author.Tests.{ltb-false, leb-false}
+use borrow.Author.Tests.{le-ltb, ltb-false, leb-false}
 use lib.ListN.{length, length-append, length-map}
 use Rattle.definition.specs.Limits.{mostRecords, mostFlags, mostMarked, nodeTrayLength, formulaTrayLength, edgeTrayLength}
 use Rattle.definition.specs.Lists.{Each, any, find, empty, below}
 use Rattle.definition.specs.Records.{Rec, numberOf, links, recordAt, decode, recAt, marks}
-use Rattle.definition.specs.Checks.{Lengths, Check, expandedSize, nonZeroField, recordChecks, checks, refused}
+use Rattle.definition.specs.Checks.{Lengths, LongEnough, Check, expandedSize, nonZeroField, recordChecks, checks, refused}
 use Rattle.definition.proofs.Lists.{or-left, or-right, each-map, each-left, each-right}
 use Rattle.definition.proofs.Issued.{length-from}
 
@@ -61,9 +61,7 @@ length-decode bytes = length-map (below (length bytes / 6)) (recordAt bytes) ∙
 pub record Accepted (bytes : List ℕ) (flags : ℕ) (lent : Lengths) : Type 0 where
   pub few : length (decode bytes) ≤ mostRecords
   pub flagged : flags ≤ mostFlags
-  pub nodes : nodeTrayLength ≤ lent .nodes
-  pub formulas : formulaTrayLength ≤ lent .formulas
-  pub edges : edgeTrayLength ≤ lent .edges
+  pub trays : LongEnough lent
   pub records : (i : ℕ) → i < length (decode bytes) → Proper i (recAt (decode bytes) i)
   pub marked : empty (marks (decode bytes)) ≡ false
   pub fewMarked : length (marks (decode bytes)) ≤ mostMarked
@@ -81,10 +79,26 @@ accepted bytes flags lent e =
     record {
       few = omega (arith, length-decode bytes, ltb-false mostRecords (length bytes / 6) (h .1 .1 .0));
       flagged = ltb-false mostFlags flags (h .1 .1 .1 .0);
-      nodes = ltb-false (lent .nodes) nodeTrayLength (or-left (ltb (lent .nodes) nodeTrayLength) _ tray);
-      formulas = ltb-false (lent .formulas) formulaTrayLength (or-left (ltb (lent .formulas) formulaTrayLength) _ short);
-      edges = ltb-false (lent .edges) edgeTrayLength (or-right (ltb (lent .formulas) formulaTrayLength) _ short);
+      trays =
+          record {
+            nodes = omega (arith, ltb-false (lent .nodes) nodeTrayLength (or-left (ltb (lent .nodes) nodeTrayLength) _ tray));
+            formulas = omega (arith, ltb-false (lent .formulas) formulaTrayLength (or-left (ltb (lent .formulas) formulaTrayLength) _ short));
+            edges = omega (arith, ltb-false (lent .edges) edgeTrayLength (or-right (ltb (lent .formulas) formulaTrayLength) _ short));
+          };
       records = λ i k. subst (λ (m : ℕ). Proper m (recAt rs i)) (omega arith) (records-proper rs [] passed i k);
       marked = last .0;
       fewMarked = ltb-false mostMarked (length (marks rs)) (last .1 .0);
     }
+
+-- check 5 passes trays that are long enough
+long-passes : (lent : Lengths) → LongEnough lent → (ltb (lent .nodes) nodeTrayLength || (ltb (lent .formulas) formulaTrayLength || ltb (lent .edges) edgeTrayLength)) ≡ false
+long-passes lent h =
+    let nodes = le-ltb (lent .nodes) nodeTrayLength (omega (arith, h .nodes)) in
+    let formulas = le-ltb (lent .formulas) formulaTrayLength (omega (arith, h .formulas)) in
+    let edges = le-ltb (lent .edges) edgeTrayLength (omega (arith, h .edges)) in
+    rw (nodes, formulas, edges) refl
+
+-- of the lengths only check 5 knows: all trays that are long enough are refused alike
+pub long-alike : (bytes : List ℕ) (flags : ℕ) (a b : Lengths) → LongEnough a → LongEnough b → refused bytes flags a ≡ refused bytes flags b
+unfolding refused checks
+long-alike bytes flags a b h k = rw (long-passes a h, long-passes b k) refl

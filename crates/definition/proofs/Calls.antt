@@ -12,17 +12,22 @@ use Rattle.definition.specs.Limits.{mostIdentifiers}
 use Rattle.definition.specs.Lists.{Each, below}
 use Rattle.definition.specs.Records.{Rec, Unknown, numberOf, recordAt, decode, made, recAt}
 use Rattle.definition.specs.Flags.{Flags, flagsOf}
-use Rattle.definition.specs.Checks.{Lengths, Check, refused}
+use Rattle.definition.specs.Checks.{Lengths, LongEnough, Check, refused}
 use Rattle.definition.specs.Run.{State, full, stops, run, start, final}
 use Rattle.definition.specs.Trays.{Trays, rowNumber, traysOf, zeroTrays, laidOver}
 use Rattle.definition.specs.Call.{Outcome, Refused, Full, Ended, outcomeOfRun, outcomeBy, outcome, refusal, answerOf, answer, traysAfter, traysLeft, lengthsOf}
 use Rattle.definition.proofs.Lists.{each-of, each-both, each-any, each-of-map}
-use Rattle.definition.proofs.Accepted.{Accepted, accepted}
+use Rattle.definition.proofs.Accepted.{Accepted, accepted, long-alike}
 use Rattle.definition.proofs.Forms.{WellFormed}
 use Rattle.definition.proofs.Bounds.{RecordFits, Bounded, run-bounded, bounded-formulas}
 use Rattle.definition.proofs.Fields.{Numbered, run-numbered}
 use Rattle.definition.proofs.TraysKept.{Sized, trays-sized, zero-sized, Kept, same-kept, laid-kept}
 use Rattle.definition.proofs.Sound.{not-full}
+
+-- longer trays change no outcome
+pub long-outcome : (branch : List ℕ) (flags : ℕ) (a b : Lengths) → LongEnough a → LongEnough b → outcome branch flags a ≡ outcome branch flags b
+unfolding outcome
+long-outcome branch flags a b h k = ap (outcomeBy branch flags) (long-alike branch flags a b h k)
 
 -- an outcome that ended comes of a branch that no check refused, and is not full
 pub ended-of : (branch : List ℕ) (flags : ℕ) (lent : Lengths) (s : State) → outcome branch flags lent ≡ Ended s →
@@ -110,8 +115,8 @@ trays-kept branch flags lent = go (refused branch flags (lengthsOf lent)) refl
     y = final (flagsOf flags) (decode branch)
 
     run : Accepted branch flags (lengthsOf lent) → (b : Bool) → full y ≡ b → Kept lent (traysAfter (cond b Full (Ended y)) lent)
-    run a true q = laid-kept zeroTrays lent zero-sized (a .nodes) (a .formulas) (a .edges)
-    run a false q = laid-kept (traysOf y) lent (final-sized branch flags (lengthsOf lent) a q) (a .nodes) (a .formulas) (a .edges)
+    run a true q = laid-kept zeroTrays lent zero-sized (a .trays)
+    run a false q = laid-kept (traysOf y) lent (final-sized branch flags (lengthsOf lent) a q) (a .trays)
 
     go : (o : Option Check) → refused branch flags (lengthsOf lent) ≡ o → Kept lent (traysAfter (outcomeBy branch flags o) lent)
     go (some c) q = same-kept lent

@@ -2,9 +2,10 @@
 use mathlib.Core.Path.{_≡_, refl, ap, ap₂, _∙_}
 use mathlib.Core.List.{List, [], _∷_, map}
 use Prim.Native.Nat.{ℕ}
+use native.Mathlib.Omega.{arith}
 use Rattle.definition.specs.Records
 use Rattle.definition.specs.Checks
-use Rattle.definition.specs.Checks.{Lengths}
+use Rattle.definition.specs.Checks.{Lengths, LongEnough}
 use Rattle.definition.specs.Flags
 use Rattle.definition.specs.Graph
 use Rattle.definition.specs.Tree
@@ -18,9 +19,10 @@ use Rattle.definition.specs.Trays
 use Rattle.definition.specs.Trays.{Trays, laidOver}
 use Rattle.definition.specs.Call
 use Rattle.definition.specs.Call.{Outcome, outcome, answerOf, answer, traysAfter, traysLeft, late, lengthsOf}
-use Rattle.definition.specs.Cases.{Case, bytes, listing, table, exactly, contradictoryFrom, contradictoryIn, Starred, listingTrays, ListingTrays}
+use Rattle.definition.specs.Cases.{Case, bytes, listing, table, contradictoryFrom, contradictoryIn, Starred, listingTrays, ListingTrays}
 use Rattle.definition.specs.Refusals
-use Rattle.definition.specs.Refusals.{Refusals}
+use Rattle.definition.specs.Refusals.{exactly, Refusals}
+use Rattle.definition.proofs.Calls.{long-outcome}
 
 -- the outcome; to unfold this is to unfold the whole definition of a call
 unfoldable pub computed : List ℕ → ℕ → Lengths → Outcome
@@ -38,14 +40,20 @@ unfolding
     Run.applyHere Run.applyPossibility Run.applyNecessity Run.applyRule Run.apply Run.checkedForContradictions Run.checkForContradictions Run.appended Run.stepBy Run.step Run.ended Run.full Run.steps Run.stops Run.rooted Run.branchNodes Run.begun Run.start Run.final
 computed branch flags lent = outcome branch flags lent
 
-pub same-outcome : (branch : List ℕ) (flags : ℕ) (lent : Lengths) → outcome branch flags lent ≡ computed branch flags lent
+is-computed : (branch : List ℕ) (flags : ℕ) (lent : Lengths) → outcome branch flags lent ≡ computed branch flags lent
 unfolding computed
-same-outcome branch flags lent = refl
+is-computed branch flags lent = refl
 
--- with trays of the paper's lengths, the call answers what is computed
-pub same-answer : (branch : List ℕ) (flags : ℕ) (lent : Trays) → lengthsOf lent ≡ exactly → answer branch flags lent ≡ answerOf (computed branch flags exactly)
+exactly-long : LongEnough exactly
+exactly-long = record { nodes = omega arith; formulas = omega arith; edges = omega arith }
+
+-- with trays that are long enough, the outcome is what is computed for the paper's lengths
+same-outcome : (branch : List ℕ) (flags : ℕ) (lent : Lengths) → LongEnough lent → outcome branch flags lent ≡ computed branch flags exactly
+same-outcome branch flags lent h = long-outcome branch flags lent exactly h exactly-long ∙ is-computed branch flags exactly
+
+pub same-answer : (branch : List ℕ) (flags : ℕ) (lent : Trays) → LongEnough (lengthsOf lent) → answer branch flags lent ≡ answerOf (computed branch flags exactly)
 unfolding answer
-same-answer branch flags lent e = rw (e, same-outcome branch flags exactly) refl
+same-answer branch flags lent h = ap answerOf (same-outcome branch flags (lengthsOf lent) h)
 
 map-same : {A B : Type 0} (f g : A → B) → ((x : A) → f x ≡ g x) → (xs : List A) → map f xs ≡ map g xs
 map-same f g h [] = refl
@@ -62,8 +70,8 @@ starred-marks = refl
 pub starred : Starred
 starred =
     record {
-      answers = λ lent e. map-same _ _ (λ (c : Case). same-answer (bytes (c .records)) (c .flags) lent e) table ∙ starred-answers;
-      marked = map-same _ _ (λ (c : Case). ap contradictoryIn (same-outcome (bytes (c .records)) (c .flags) exactly)) table ∙ starred-marks;
+      answers = λ lent h. map-same _ _ (λ (c : Case). same-answer (bytes (c .records)) (c .flags) lent h) table ∙ starred-answers;
+      marked = λ lent h. map-same _ _ (λ (c : Case). ap contradictoryIn (same-outcome (bytes (c .records)) (c .flags) lent h)) table ∙ starred-marks;
     }
 
 listing-left : (lent : Trays) → traysAfter (computed (bytes listing) 1 exactly) lent ≡ laidOver listingTrays lent
@@ -72,7 +80,7 @@ listing-left lent = refl
 
 pub listing-trays : ListingTrays
 unfolding traysLeft
-listing-trays lent e = rw (e, same-outcome (bytes listing) 1 exactly) (listing-left lent)
+listing-trays lent h = ap (λ (o : Outcome). traysAfter o lent) (same-outcome (bytes listing) 1 (lengthsOf lent) h) ∙ listing-left lent
 
 pub refusals : Refusals
 unfolding computed answerOf

@@ -8,9 +8,11 @@ use lib.Seq.{drop-append-seam}
 use Rattle.definition.specs.Limits.{mostIdentifiers, mostWorlds, nodeTrayLength, formulaTrayLength, edgeTrayLength}
 use Rattle.definition.specs.Lists.{concatMap}
 use Rattle.definition.specs.Records.{Rec}
+use Rattle.definition.specs.Checks.{LongEnough}
 use Rattle.definition.specs.Tree.{Node}
 use Rattle.definition.specs.Run.{State}
 use Rattle.definition.specs.Trays.{Trays, nodeBytes, recordBytes, rowNumber, padded, traysOf, zeroTrays, over, laidOver}
+use Rattle.definition.specs.Call.{lengthsOf}
 
 -- the three lengths
 pub record Sized (t : Trays) : Type 0 where
@@ -69,12 +71,11 @@ over-kept n written lent e h =
 pub same-kept : (t : Trays) → Kept t t
 same-kept t = record { nodes = record { long = refl; rest = refl }; formulas = record { long = refl; rest = refl }; edges = record { long = refl; rest = refl } }
 
-pub laid-kept : (t lent : Trays) → Sized t → nodeTrayLength ≤ length (lent .nodes) → formulaTrayLength ≤ length (lent .formulas) → edgeTrayLength ≤ length (lent .edges) →
-    Kept lent (laidOver t lent)
+pub laid-kept : (t lent : Trays) → Sized t → LongEnough (lengthsOf lent) → Kept lent (laidOver t lent)
 unfolding laidOver
-laid-kept t lent s a b c =
+laid-kept t lent s h =
     record {
-      nodes = over-kept nodeTrayLength (t .nodes) (lent .nodes) (s .nodes) a;
-      formulas = over-kept formulaTrayLength (t .formulas) (lent .formulas) (s .formulas) b;
-      edges = over-kept edgeTrayLength (t .edges) (lent .edges) (s .edges) c;
+      nodes = over-kept nodeTrayLength (t .nodes) (lent .nodes) (s .nodes) (omega (arith, h .nodes));
+      formulas = over-kept formulaTrayLength (t .formulas) (lent .formulas) (s .formulas) (omega (arith, h .formulas));
+      edges = over-kept edgeTrayLength (t .edges) (lent .edges) (s .edges) (omega (arith, h .edges));
     }

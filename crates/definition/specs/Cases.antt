@@ -4,9 +4,8 @@ use mathlib.Core.Bool.{Bool, true, false, cond}
 use mathlib.Core.List.{List, [], _∷_, _++_, map}
 use Prim.Native.Nat.{ℕ, suc}
 use lib.ListN.{replicate}
-use Rattle.definition.specs.Limits.{nodeTrayLength, formulaTrayLength, edgeTrayLength}
 use Rattle.definition.specs.Lists.{concatMap}
-use Rattle.definition.specs.Checks.{Lengths}
+use Rattle.definition.specs.Checks.{Lengths, LongEnough}
 use Rattle.definition.specs.Tree.{Node, isContradictory}
 use Rattle.definition.specs.Trays.{Trays, laidOver}
 use Rattle.definition.specs.Call.{Outcome, Refused, Full, Ended, outcome, Answer, refusal, verdict, answer, lengthsOf, traysLeft}
@@ -59,9 +58,6 @@ table =
     ∷ case deadEnd 6 (ends true 10 7 2 3) (7 ∷ 1 ∷ 9 ∷ 1 ∷ [])
     ∷ []
 
-abbrev pub exactly : Lengths
-exactly = record { nodes = nodeTrayLength; formulas = formulaTrayLength; edges = edgeTrayLength }
-
 -- node i and its contrarian, for each contradictory node from i on
 unfoldable pub contradictoryFrom : ℕ → List Node → List ℕ
 contradictoryFrom i [] = []
@@ -72,12 +68,12 @@ contradictoryIn (Refused c) = []
 contradictoryIn Full = []
 contradictoryIn (Ended s) = contradictoryFrom 0 (s .nodes)
 
--- the call on each case of the table, with any trays of the paper's lengths
+-- the call on each case of the table, with any trays that are long enough
 pub record Starred : Type 0 where
-  pub answers : (lent : Trays) → lengthsOf lent ≡ exactly → map (λ (c : Case). answer (bytes (c .records)) (c .flags) lent) table ≡ map (λ (c : Case). c .answered) table
-  pub marked : map (λ (c : Case). contradictoryIn (outcome (bytes (c .records)) (c .flags) exactly)) table ≡ map (λ (c : Case). c .contradictory) table
+  pub answers : (lent : Trays) → LongEnough (lengthsOf lent) → map (λ (c : Case). answer (bytes (c .records)) (c .flags) lent) table ≡ map (λ (c : Case). c .answered) table
+  pub marked : (lent : Lengths) → LongEnough lent → map (λ (c : Case). contradictoryIn (outcome (bytes (c .records)) (c .flags) lent)) table ≡ map (λ (c : Case). c .contradictory) table
 
--- the trays of the listing with flags 1, byte by byte: three nodes, three formulas, one edge
+-- what is written of the trays for the listing with flags 1, byte by byte: three nodes, three formulas, one edge
 abbrev pub listingTrays : Trays
 listingTrays =
     record {
@@ -91,4 +87,4 @@ listingTrays =
     }
 
 abbrev pub ListingTrays : Type 0
-ListingTrays = (lent : Trays) → lengthsOf lent ≡ exactly → traysLeft (bytes listing) 1 lent ≡ laidOver listingTrays lent
+ListingTrays = (lent : Trays) → LongEnough (lengthsOf lent) → traysLeft (bytes listing) 1 lent ≡ laidOver listingTrays lent

@@ -2,7 +2,7 @@
 use mathlib.Core.Bool.{Bool, _&&_, _||_, not}
 use mathlib.Core.List.{List, [], _∷_, _++_, map}
 use mathlib.Core.Option.{Option}
-use Prim.Native.Nat.{ℕ, suc, _/_, _%_}
+use Prim.Native.Nat.{ℕ, suc, _≤_, _/_, _%_}
 use lib.Dec.{eqb, ltb, leb}
 use lib.ListN.{length, getD}
 use Rattle.definition.specs.Limits.{recordLength, mostRecords, mostSize, mostFlags, mostMarked, nodeTrayLength, formulaTrayLength, edgeTrayLength}
@@ -14,6 +14,12 @@ pub record Lengths : Type 0 where
   pub nodes : ℕ
   pub formulas : ℕ
   pub edges : ℕ
+
+-- no tray is "below its length"
+pub record LongEnough (lent : Lengths) : Type 0 where
+  pub nodes : nodeTrayLength ≤ lent .nodes
+  pub formulas : formulaTrayLength ≤ lent .formulas
+  pub edges : edgeTrayLength ≤ lent .edges
 
 -- one check: whether it applies, its number in the table, and "its record number (0 outside 6 to 9)"
 pub record Check : Type 0 where

@@ -3,10 +3,11 @@ use mathlib.Core.Path.{_≡_}
 use mathlib.Core.List.{List, [], _∷_, _++_, map}
 use Prim.Native.Nat.{ℕ}
 use lib.ListN.{replicate, drop}
+use Rattle.definition.specs.Limits.{nodeTrayLength, formulaTrayLength, edgeTrayLength}
 use Rattle.definition.specs.Lists.{upFrom}
 use Rattle.definition.specs.Checks.{Lengths}
 use Rattle.definition.specs.Call.{refusal, answerOf, outcome}
-use Rattle.definition.specs.Cases.{rec, bytes, exactly}
+use Rattle.definition.specs.Cases.{rec, bytes}
 
 pub record Bad : Type 0 where
   pub records : List (List ℕ)
@@ -17,6 +18,10 @@ pub record Bad : Type 0 where
 
 abbrev pub bad : List (List ℕ) → ℕ → Lengths → ℕ → ℕ → Bad
 bad rs f l n i = record { records = rs; flags = f; lent = l; number = n; place = i }
+
+-- trays of the paper's lengths
+abbrev pub exactly : Lengths
+exactly = record { nodes = nodeTrayLength; formulas = formulaTrayLength; edges = edgeTrayLength }
 
 -- trays of which one is a number too short
 abbrev pub shortNodes : Lengths

@@ -153,7 +153,7 @@ module _ (branch : List ℕ) (flags : ℕ) (lent : Trays) where
     unfolding final
     runs e l k begin go finish =
         let ran = go (record { logic = l; skip = k }) run-fit (watch-start F rs (a .marked)) (rooted-start F rs) (begin (omega (arith, length-decode branch, a .few)) (a .marked) (a .fewMarked)) in
-        let done = finish ran run-ends (record { nodes = a .nodes; formulas = a .formulas; edges = a .edges }) in
+        let done = finish ran run-ends (a .trays) in
         contract-run _ _ e (done .0) (done .1)
 
 -- no verdict has more than 25 worlds

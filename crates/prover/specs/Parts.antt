@@ -4,12 +4,13 @@ use mathlib.Core.Bool.{Bool, false}
 use mathlib.Core.List.{List}
 use Prim.Native.Nat.{_≤_, _<_}
 use lib.ListN.{length}
-use Rattle.definition.specs.Limits.{nodeTrayLength, formulaTrayLength, edgeTrayLength}
 use Rattle.definition.specs.Lists.{Each}
 use Rattle.definition.specs.Records.{Rec}
+use Rattle.definition.specs.Checks.{LongEnough}
 use Rattle.definition.specs.Tree.{Node}
 use Rattle.definition.specs.Trays.{Trays}
 use Rattle.definition.specs.Run.{State, full}
+use Rattle.definition.specs.Call.{lengthsOf}
 
 -- a run that is not full ends with numbers that fit their bytes, and a square of edges
 pub record Fits (s : State) : Type 0 where
@@ -24,7 +25,5 @@ abbrev pub Ends : State → Type 0
 Ends s = full s ≡ false → Fits s
 
 -- the trays are long enough
-pub record Sized (t : Trays) : Type 0 where
-  pub nodes : nodeTrayLength ≤ length (t .nodes)
-  pub formulas : formulaTrayLength ≤ length (t .formulas)
-  pub edges : edgeTrayLength ≤ length (t .edges)
+abbrev pub Sized : Trays → Type 0
+Sized t = LongEnough (lengthsOf t)

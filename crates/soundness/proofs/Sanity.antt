@@ -14,7 +14,8 @@ use Rattle.definition.specs.Flags.{flagsOf}
 use Rattle.definition.specs.Models.{Model, Has, truth}
 use Rattle.definition.specs.Call.{answerOf}
 use Rattle.definition.specs.Claim.{Proved}
-use Rattle.definition.specs.Cases.{bytes, deadEnd, exactly}
+use Rattle.definition.specs.Cases.{bytes, deadEnd}
+use Rattle.definition.specs.Refusals.{exactly}
 use Rattle.definition.proofs.Lists.{true-false}
 use Rattle.definition.proofs.Computed.{computed, same-answer}
 use Rattle.soundness.specs.Claims.{ModelsExist, DeadEnd}
@@ -59,6 +60,6 @@ proved-there = refl
 
 pub dead-end : DeadEnd
 dead-end = (
-  λ t e. rw (same-answer branch 6 t e) proved-there,
+  λ t h. rw (same-answer branch 6 t h) proved-there,
   (lonely, lonely-has, lonely-size, lonely-reaches, lonely-holds),
 )

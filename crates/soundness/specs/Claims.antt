@@ -11,7 +11,7 @@ use Rattle.definition.specs.Lists.{Each, Distinct, empty}
 use Rattle.definition.specs.Records.{Rec, nobody, isNobody, decode, marks, numberOf}
 use Rattle.definition.specs.Formula.{formAt}
 use Rattle.definition.specs.Flags.{Flags, flagsOf}
-use Rattle.definition.specs.Checks.{Lengths, Check, refused}
+use Rattle.definition.specs.Checks.{Lengths, LongEnough, Check, refused}
 use Rattle.definition.specs.Models.{Model, Has, truth}
 use Rattle.definition.specs.Tree.{Node, Place, Left, Middle, Right, Root, Unplaced, nodeAt, leavesBelow, upward, leaves, path}
 use Rattle.definition.specs.Rules.{expansion, writtenRule, priest}
@@ -20,7 +20,7 @@ use Rattle.definition.specs.Run.{State, apply, step, full, run, unlimitedRun, s
 use Rattle.definition.specs.Trays.{Trays, rowNumber, traysOf, zeroTrays, laidOver}
 use Rattle.definition.specs.Call.{Refused, Ended, outcome, refusal, answer, traysLeft, lengthsOf}
 use Rattle.definition.specs.Claim.{Proved, Reaching}
-use Rattle.definition.specs.Cases.{bytes, deadEnd, exactly}
+use Rattle.definition.specs.Cases.{bytes, deadEnd}
 
 -- "whose rules are Priest's tableau rules": at every state of an accepted run, the rule that a formula's record chooses, written out, is the row
 -- of Priest's table. Of closing, worlds and edges this says nothing: there demand 3 speaks
@@ -162,5 +162,5 @@ ModelsExist = (F : Flags) (value : ℕ → ℕ → Bool) → (M : Model) × Has 
 abbrev pub DeadEnd : Type 0
 DeadEnd =
     let branch = bytes deadEnd in
-    ((lent : Trays) → lengthsOf lent ≡ exactly → Proved (answer branch 6 lent)) ×
+    ((lent : Trays) → LongEnough (lengthsOf lent) → Proved (answer branch 6 lent)) ×
     ((M : Model) × Has (flagsOf 6) M × (0 < M .size) × ((v : ℕ) → M .reach 0 v ≡ false) × Each (λ f. truth M (formAt (decode branch) f) 0 ≡ true) (marks (decode branch)))
