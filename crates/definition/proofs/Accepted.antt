@@ -13,7 +13,7 @@ use Rattle.definition.specs.Limits.{mostRecords, mostFlags, mostMarked, 
 use Rattle.definition.specs.Lists.{Each, any, find, empty, below}
 use Rattle.definition.specs.Records.{Rec, numberOf, links, recordAt, decode, recAt, marks}
 use Rattle.definition.specs.Checks.{Lengths, LongEnough, Check, expandedSize, nonZeroField, recordChecks, checks, refused}
-use Rattle.definition.proofs.Lists.{or-left, or-right, each-map, each-left, each-right}
+use Rattle.definition.proofs.Lists.{or-left, or-right, each-map, each-append, each-left, each-right, find-each}
 use Rattle.definition.proofs.Issued.{length-from}
 
 find-none : {A : Type 0} (p : A → Bool) (xs : List A) → find p xs ≡ none → Each (λ x. p x ≡ false) xs
@@ -102,3 +102,18 @@ long-passes lent h =
 pub long-alike : (bytes : List ℕ) (flags : ℕ) (a b : Lengths) → LongEnough a → LongEnough b → refused bytes flags a ≡ refused bytes flags b
 unfolding refused checks
 long-alike bytes flags a b h k = rw (long-passes a h, long-passes b k) refl
+
+abbrev Low : Check → Type 0
+Low c = c .number ≤ 11
+
+records-low : (sizes : List ℕ) (rs : List Rec) → Each Low (recordChecks sizes rs)
+unfolding recordChecks
+records-low sizes [] = tt
+records-low sizes (r ∷ rs) = (omega arith, (omega arith, (omega arith, (omega arith, records-low _ rs))))
+
+-- the checks before the run are numbered 1 to 11
+pub refused-low : (bytes : List ℕ) (flags : ℕ) (lent : Lengths) (c : Check) → refused bytes flags lent ≡ some c → c .number ≤ 11
+unfolding refused checks
+refused-low bytes flags lent =
+    find-each Low (λ (d : Check). d .applies) (checks bytes flags lent)
+    (omega arith, (omega arith, (omega arith, (omega arith, (omega arith, each-append Low (recordChecks [] (decode bytes)) _ (records-low [] (decode bytes)) (omega arith, (omega arith, tt)))))))

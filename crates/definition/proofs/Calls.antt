@@ -1,5 +1,5 @@
 -- The whole call: what its outcome tells of the run, and what it leaves of the trays.
-use mathlib.Core.Path.{_≡_, refl, sym, ap, _∙_}
+use mathlib.Core.Path.{_≡_, refl, ap}
 use mathlib.Core.Bool.{Bool, true, false, cond}
 use mathlib.Core.List.{List, [], _∷_}
 use mathlib.Core.Option.{Option, none, some}
@@ -13,11 +13,12 @@ use Rattle.definition.specs.Lists.{Each, below}
 use Rattle.definition.specs.Records.{Rec, Unknown, numberOf, recordAt, decode, made, recAt}
 use Rattle.definition.specs.Flags.{Flags, flagsOf}
 use Rattle.definition.specs.Checks.{Lengths, LongEnough, Check, refused}
-use Rattle.definition.specs.Run.{State, full, stops, run, start, final}
+use Rattle.definition.specs.Run.{State, full, stops, run, start, Passes, final}
 use Rattle.definition.specs.Trays.{Trays, rowNumber, traysOf, zeroTrays, laidOver}
 use Rattle.definition.specs.Call.{Outcome, Refused, Full, Ended, outcomeOfRun, outcomeBy, outcome, refusal, answerOf, answer, traysAfter, traysLeft, lengthsOf}
 use Rattle.definition.proofs.Lists.{each-of, each-both, each-any, each-of-map}
-use Rattle.definition.proofs.Accepted.{Accepted, accepted, long-alike}
+use Rattle.definition.proofs.Accepted.{Accepted, accepted, long-alike, refused-low}
+use Rattle.definition.proofs.Exact.{full-exactly}
 use Rattle.definition.proofs.Forms.{WellFormed}
 use Rattle.definition.proofs.Bounds.{RecordFits, Bounded, run-bounded, bounded-formulas}
 use Rattle.definition.proofs.Fields.{Numbered, run-numbered}
@@ -122,26 +123,36 @@ trays-kept branch flags lent = go (refused branch flags (lengthsOf lent)) refl
     go (some c) q = same-kept lent
     go none q = run (accepted branch flags (lengthsOf lent) q) (full y) refl
 
--- an accepted branch is refused with 12 exactly if its run is full, and the trays are zeroed
-module _ (branch : List ℕ) (flags : ℕ) (lent : Trays) (e : refused branch flags (lengthsOf lent) ≡ none) where
+-- the call answers 12 exactly if no check applies and the run is full, and then zeroes the trays
+module _ (branch : List ℕ) (flags : ℕ) (lent : Trays) where
   abbrev y : State
   y = final (flagsOf flags) (decode branch)
 
-  of-run : outcome branch flags (lengthsOf lent) ≡ outcomeOfRun y
-  unfolding outcome outcomeBy
-  of-run = rw e refl
-
-  pub twelve-full : (answer branch flags lent ≡ refusal 12 0) ↔ (full y ≡ true)
-  unfolding answer answerOf outcomeOfRun
-  twelve-full = (λ a. go (full y) refl (sym (ap answerOf of-run) ∙ a), λ f. ap answerOf of-run ∙ rw f refl)
+  twelve-full : (place : ℕ) → answer branch flags lent ≡ refusal 12 place → (refused branch flags (lengthsOf lent) ≡ none) × (full y ≡ true)
+  unfolding answer outcome outcomeBy outcomeOfRun answerOf
+  twelve-full place = go (refused branch flags (lengthsOf lent)) refl
     where
-      go : (b : Bool) → full y ≡ b → answerOf (cond b Full (Ended y)) ≡ refusal 12 0 → full y ≡ true
-      go true q a = q
-      go false q a = let o : _≡_ {A = ℕ} 0 1 = cc in absurd (omega arith)
+      ran : (b : Bool) → full y ≡ b → answerOf (cond b Full (Ended y)) ≡ refusal 12 place → full y ≡ true
+      ran true q a = q
+      ran false q a = let o : _≡_ {A = ℕ} 0 1 = cc in absurd (omega arith)
 
-  pub twelve-zeroes : answer branch flags lent ≡ refusal 12 0 → traysLeft branch flags lent ≡ laidOver zeroTrays lent
-  unfolding traysLeft traysAfter outcomeOfRun
-  twelve-zeroes a = ap (λ (o : Outcome). traysAfter o lent) of-run ∙ rw (twelve-full .0 a) refl
+      go : (o : Option Check) → refused branch flags (lengthsOf lent) ≡ o → answerOf (outcomeBy branch flags o) ≡ refusal 12 place → (refused branch flags (lengthsOf lent) ≡ none) × (full y ≡ true)
+      go (some c) q a = let d : c .number ≡ 12 = cc in absurd (omega (arith, d, refused-low branch flags (lengthsOf lent) c q))
+      go none q a = (q, ran (full y) refl a)
+
+  full-outcome : refused branch flags (lengthsOf lent) ≡ none → full y ≡ true → outcome branch flags (lengthsOf lent) ≡ Full
+  unfolding outcome outcomeBy outcomeOfRun
+  full-outcome e f = rw (e, f) refl
+
+  pub twelve-exactly : (answer branch flags lent ≡ refusal 12 0) ↔ ((refused branch flags (lengthsOf lent) ≡ none) × Passes (flagsOf flags) (decode branch))
+  unfolding answer answerOf
+  twelve-exactly =
+      let k = full-exactly (flagsOf flags) (decode branch) in
+      (λ a. let h = twelve-full 0 a in (h .0, k .0 (h .1)), λ p. ap answerOf (full-outcome (p .0) (k .1 (p .1))))
+
+  pub twelve-zeroes : (place : ℕ) → answer branch flags lent ≡ refusal 12 place → traysLeft branch flags lent ≡ laidOver zeroTrays lent
+  unfolding traysLeft traysAfter
+  twelve-zeroes place a = let h = twelve-full place a in ap (λ (o : Outcome). traysAfter o lent) (full-outcome (h .0) (h .1))
 
 -- a refusal before the run writes nothing
 pub refused-keeps : (branch : List ℕ) (flags : ℕ) (lent : Trays) (c : Check) → outcome branch flags (lengthsOf lent) ≡ Refused c → traysLeft branch flags lent ≡ lent

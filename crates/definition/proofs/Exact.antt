@@ -2,7 +2,7 @@
 use mathlib.Core.Path.{_≡_, refl, sym, ap, _∙_}
 use mathlib.Core.Bool.{Bool, true, false, cond, _||_}
 use mathlib.Core.List.{List, [], _∷_, _++_}
-use mathlib.Core.Logic.{_⊎_, inl, inr}
+use mathlib.Core.Logic.{_⊎_, inl, inr, _↔_}
 use Prim.Native.Nat.{ℕ, zero, suc, _<_, _≤_, _+_}
 use native.Mathlib.Omega.{arith}
 use borrow.Author.Tests.{lt-ltb, ltb-true}
@@ -12,7 +12,7 @@ use Rattle.definition.specs.Records.{Rec}
 use Rattle.definition.specs.Flags.{Flags}
 use Rattle.definition.specs.Tree.{Node}
 use Rattle.definition.specs.Subtree.{Targeted, appendSubtree, appendLogicRuleResult}
-use Rattle.definition.specs.Run.{State, step, ended, full, steps, stops, run, unlimitedRun, start, final}
+use Rattle.definition.specs.Run.{State, step, ended, full, steps, stops, run, unlimitedRun, start, Passes, final}
 use Rattle.definition.proofs.Lists.{true-false, or-left, or-true}
 use Rattle.definition.proofs.Nodes.{ext-result}
 use Rattle.definition.proofs.Growing.{step-keeps, steps-keep}
@@ -136,8 +136,7 @@ not-full-exact k F rs h small = go (same-or-full k F (start F rs))
     go (inl q) = q ∙ e
     go (inr q) = true-false (sym (q .0) ∙ ap full e ∙ small)
 
--- "full" comes exactly where the paper's run passes mostIdentifiers
-pub full-passes : (F : Flags) (rs : List Rec) → full (final F rs) ≡ true → full (unlimitedRun (suc mostIdentifiers) F (start F rs)) ≡ true
+full-passes : (F : Flags) (rs : List Rec) → full (final F rs) ≡ true → full (unlimitedRun (suc mostIdentifiers) F (start F rs)) ≡ true
 unfolding final
 full-passes F rs h = go (same-or-full (suc mostIdentifiers) F (start F rs))
   where
@@ -148,7 +147,7 @@ full-passes F rs h = go (same-or-full (suc mostIdentifiers) F (start F rs))
     go (inl q) = ap full q ∙ h
     go (inr q) = q .1
 
-pub passes-full : (F : Flags) (rs : List Rec) (n : ℕ) → full (unlimitedRun n F (start F rs)) ≡ true → full (final F rs) ≡ true
+passes-full : (F : Flags) (rs : List Rec) (n : ℕ) → full (unlimitedRun n F (start F rs)) ≡ true → full (final F rs) ≡ true
 passes-full F rs n h = go (same-or-full k F (start F rs))
   where
     k : ℕ
@@ -166,6 +165,17 @@ passes-full F rs n h = go (same-or-full k F (start F rs))
     go : (z ≡ run k F (start F rs)) ⊎ ((full (run k F (start F rs)) ≡ true) × (full z ≡ true)) → full (final F rs) ≡ true
     go (inl q) = sym (ap full (q ∙ e)) ∙ on
     go (inr q) = sym (ap full e) ∙ q .0
+
+-- "full" comes exactly where the paper's run passes mostIdentifiers
+pub full-exactly : (F : Flags) (rs : List Rec) → (full (final F rs) ≡ true) ↔ Passes F rs
+unfolding full
+full-exactly F rs = (
+  λ h. (suc mostIdentifiers, omega (arith, ltb-true mostIdentifiers (issued (suc mostIdentifiers)) (full-passes F rs h))),
+  λ p. passes-full F rs (p .0) (lt-ltb mostIdentifiers (issued (p .0)) (omega (arith, p .1))),
+)
+  where
+    issued : ℕ → ℕ
+    issued n = length (unlimitedRun n F (start F rs) .nodes)
 
 unlimited-counted : (n : ℕ) (F : Flags) (s : State) → Counted s → Counted (unlimitedRun n F s)
 unfolding steps

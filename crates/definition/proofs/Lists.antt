@@ -2,13 +2,14 @@
 use mathlib.Core.Path.{_≡_, refl, sym, ap, _∙_, subst}
 use mathlib.Core.Bool.{Bool, true, false, not, _&&_, _||_, cond}
 use mathlib.Core.List.{List, [], _∷_, _++_, map, reverse, reverseAux}
+use mathlib.Core.Option.{some}
 use mathlib.Core.Logic.{_⊎_, inl, inr, ⊎-elim, _≢_}
 use Prim.Native.Nat.{ℕ, zero, suc, _<_, _≤_, _+_}
 use native.Mathlib.Omega.{arith}
 use lib.Dec.{eqb}
 use borrow.Author.Tests.{eqb-true, eqb-false}
 use lib.ListN.{length, getD}
-use Rattle.definition.specs.Lists.{any, all, filter, Each, upFrom, below, elem}
+use Rattle.definition.specs.Lists.{any, all, find, filter, Each, upFrom, below, elem}
 
 pub true-false : {A : Type 0} → true ≡ false → A
 true-false {A} e = let z : _≡_ {A = ℕ} 0 1 = cc (e) in absurd (omega arith)
@@ -132,6 +133,15 @@ module _ {A : Type 0} where
   pub all-each : (p : A → Bool) (xs : List A) → all p xs ≡ true → Each (λ x. p x ≡ true) xs
   all-each p [] e = tt
   all-each p (x ∷ xs) e = (and-left (p x) (all p xs) e, all-each p xs (and-right (p x) (all p xs) e))
+
+  -- what is found keeps what held of each
+  pub find-each : (P : A → Type 0) (p : A → Bool) (xs : List A) → Each P xs → (y : A) → find p xs ≡ some y → P y
+  find-each P p [] h y e = let z : _≡_ {A = ℕ} 0 1 = cc in absurd (omega arith)
+  find-each P p (x ∷ xs) h y e = go (p x) e (find-each P p xs (h .1) y)
+    where
+      go : (b : Bool) → cond b (some x) (find p xs) ≡ some y → (find p xs ≡ some y → P y) → P y
+      go true d k = let q : x ≡ y = cc in subst P q (h .0)
+      go false d k = k d
 
   -- what is sifted passes, and keeps what held of each
   pub each-filter : (P : A → Type 0) (p : A → Bool) (xs : List A) → Each P xs → Each (λ x. P x × (p x ≡ true)) (filter p xs)

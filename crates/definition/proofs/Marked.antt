@@ -1,6 +1,6 @@
 -- After a check, a path has a contradictory node just where it has a pair, and marks anew change nothing: only the new leaves need a search.
 use mathlib.Core.Path.{_≡_, refl, sym, ap, _∙_, subst, fun-ext}
-use mathlib.Core.Bool.{Bool, true, false, not, cond}
+use mathlib.Core.Bool.{Bool, true, false, not}
 use mathlib.Core.List.{List, [], _∷_, _++_, map, reverse, append-nil}
 use mathlib.Core.Option.{Option, none, some, Option·map}
 use mathlib.Core.Logic.{_⊎_, inl, inr, ⊎-elim, _≢_}
@@ -10,14 +10,14 @@ use lib.Dec.{ltb, leb}
 use borrow.Author.Tests.{ne-eqb, ltb-true, ltb-false, leb-false}
 use lib.ListN.{length, drop}
 use lib.Seq.{set-getD}
-use Rattle.definition.specs.Lists.{Each, any, all, find, orElse, filter, empty}
+use Rattle.definition.specs.Lists.{Each, any, all, orElse, filter, empty}
 use Rattle.definition.specs.Records.{nobody, isNobody, Rec, marks}
 use Rattle.definition.specs.Flags.{Flags}
 use Rattle.definition.specs.Tree.{Node, Place, Root, Left, Middle, Right, Unplaced, Children, nodeAt, markedAgainst, change, isLeaf, isContradictory, only, leavesBelow, leaves, path}
 use Rattle.definition.specs.Contradiction.{areNodesContradictory, Pair, pair, isPair, mark, markAll, pairs}
 use Rattle.definition.specs.Queue.{Popped, pop}
 use Rattle.definition.specs.Run.{State, apply, checkedForContradictions, checkForContradictions, appended, stepBy, step, stops, begun, start}
-use Rattle.definition.proofs.Lists.{true-false, either, alike, or-true, Some, some-append-left, some-append-right, some-each, some-pick, each-map, each-both, each-of-map, each-reverse}
+use Rattle.definition.proofs.Lists.{true-false, either, alike, or-true, Some, some-append-left, some-append-right, some-each, some-pick, each-map, each-both, each-of-map, each-reverse, find-each}
 use Rattle.definition.proofs.Nodes.{blank, change-other, change-same, mark-keeps, length-marks}
 use Rattle.definition.proofs.Treed.{Spot, spot, spots, placed, childAt, In, Treed, Bare, in-range, in-out, root-in, leaves-bare, leaves-more, path-distinct}
 use Rattle.definition.proofs.Linking.{bare-room}
@@ -67,14 +67,6 @@ else-some x (some y) rest p e = let d : pair x y ≡ p = cc in inl (sym (ap (λ 
 else-none : (x : ℕ) (o : Option ℕ) (rest : Option Pair) → orElse (Option·map (pair x) o) rest ≡ none → (o ≡ none) × (rest ≡ none)
 else-none x none rest e = (refl, e)
 else-none x (some y) rest e = let z : _≡_ {A = ℕ} 0 1 = cc in absurd (omega arith)
-
-find-each : (P : ℕ → Type 0) (p : ℕ → Bool) (xs : List ℕ) → Each P xs → (y : ℕ) → find p xs ≡ some y → P y
-find-each P p [] h y e = let z : _≡_ {A = ℕ} 0 1 = cc in absurd (omega arith)
-find-each P p (x ∷ xs) h y e = go (p x) e (find-each P p xs (h .1) y)
-  where
-    go : (b : Bool) → cond b (some x) (find p xs) ≡ some y → (find p xs ≡ some y → P y) → P y
-    go true d k = let q : x ≡ y = cc in subst P q (h .0)
-    go false d k = k d
 
 -- the pair of x: its later node is on the path, and has the earlier one for a partner
 pub record Paired (rs : List Rec) (t : List Node) (x : ℕ) (p : Pair) : Type 0 where

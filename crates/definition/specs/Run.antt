@@ -2,7 +2,7 @@
 use mathlib.Core.Bool.{Bool, false, _||_, cond}
 use mathlib.Core.List.{List, [], _∷_, _++_, map, reverse}
 use mathlib.Core.Option.{Option, none, some}
-use Prim.Native.Nat.{ℕ, zero, suc, _+_}
+use Prim.Native.Nat.{ℕ, zero, suc, _<_, _+_}
 use lib.Dec.{leb, ltb}
 use lib.ListN.{length}
 use Rattle.definition.specs.Limits.{mostIdentifiers, mostWorlds}
@@ -176,6 +176,10 @@ begun rs =
 -- "Contradictions are checked once before any step, unless skipped"
 unfoldable pub start : Flags → List Rec → State
 start F rs = checkForContradictions F (begun rs)
+
+-- "that run passes 512 identifiers", sooner or later: by the paper's own loop
+abbrev pub Passes : Flags → List Rec → Type 0
+Passes F rs = (n : ℕ) × (mostIdentifiers < length (unlimitedRun n F (start F rs) .nodes))
 
 -- each step takes an identifier that was not taken before, so that this many steps are enough
 unfoldable pub final : Flags → List Rec → State

@@ -1,28 +1,28 @@
 -- The whole call, from its parts.
 use mathlib.Core.Path.{_≡_, refl, sym, ap, _∙_, subst}
 use mathlib.Core.Bool.{Bool, true, false, cond}
-use mathlib.Core.List.{List, [], _∷_}
+use mathlib.Core.List.{List}
 use mathlib.Core.Option.{Option, none, some}
 use mathlib.Core.Logic.{_⊎_, inl, inr}
 use Prim.Native.Nat.{ℕ, _≤_, _<_, _/_}
 use native.Mathlib.Omega.{arith}
 use lib.ListN.{length}
 use Rattle.definition.specs.Limits.{mostWorlds}
-use Rattle.definition.specs.Lists.{Each, find, empty}
+use Rattle.definition.specs.Lists.{Each, empty}
 use Rattle.definition.specs.Records.{Rec, Unknown, nobody, made, decode, recAt, marks}
 use Rattle.definition.specs.Flags.{Flags, flagsOf}
 use Rattle.definition.specs.Tree.{Node, newNode}
 use Rattle.definition.specs.Graph.{initializeGraphIfNeeded}
 use Rattle.definition.specs.Run.{State, full, start, run, final}
-use Rattle.definition.specs.Trays.{Trays, zeroTrays, laidOver}
-use Rattle.definition.specs.Checks.{Check, check, recordChecks, checks, refused}
+use Rattle.definition.specs.Trays.{Trays}
+use Rattle.definition.specs.Checks.{Check, check, refused}
 use Rattle.definition.specs.Call.{Outcome, Refused, Full, Ended, Answer, refusal, outcomeOfRun, outcomeBy, outcome, answerOf, answer, traysAfter, traysLeft, lengthsOf}
 use Rattle.definition.specs.Claim.{Proved}
-use Rattle.definition.proofs.Lists.{each-of, each-append, each-any}
+use Rattle.definition.proofs.Lists.{each-of, each-any}
 use Rattle.definition.proofs.Edges.{init-one, init-less}
 use Rattle.definition.proofs.Bounds.{bounded-formulas, bounded-steps}
 use Rattle.definition.proofs.Accepted.{Accepted, accepted, length-decode}
-use Rattle.definition.proofs.Calls.{final-bounded}
+use Rattle.definition.proofs.Calls.{final-bounded, twelve-exactly, twelve-zeroes}
 use Rattle.definition.proofs.Fresh.{Watch, watch-start}
 use Rattle.definition.proofs.Spawned.{AllRooted, rooted-start}
 use Rattle.definition.proofs.Ready.{Fit, fit-start}
@@ -35,30 +35,6 @@ use Rattle.prover.specs.Contract.{Contract}
 use Rattle.prover.specs.Said.{worldsOf}
 use Rattle.prover.specs.Parts.{Ends, Sized}
 
-find-each : {A : Type 0} (P : A → Type 0) (p : A → Bool) (xs : List A) (x : A) → Each P xs → find p xs ≡ some x → P x
-find-each P p [] x h e = let o : _≡_ {A = ℕ} 0 1 = cc in absurd (omega arith)
-find-each P p (y ∷ ys) x h e = go (p y) e (find-each P p ys x (h .1))
-  where
-    go : (b : Bool) → cond b (some y) (find p ys) ≡ some x → (find p ys ≡ some x → P x) → P x
-    go true d f = let same : y ≡ x = cc in subst P same (h .0)
-    go false d f = f d
-
-abbrev Low : Check → Type 0
-Low c = c .number ≤ 11
-
-records-low : (sizes : List ℕ) (rs : List Rec) → Each Low (recordChecks sizes rs)
-unfolding recordChecks
-records-low sizes [] = tt
-records-low sizes (r ∷ rs) = (omega arith, (omega arith, (omega arith, (omega arith, records-low _ rs))))
-
--- the checks before the run are numbered 1 to 11
-refused-low : (bytes : List ℕ) (flags : ℕ) (lent : Trays) (c : Check) → refused bytes flags (lengthsOf lent) ≡ some c → c .number ≤ 11
-unfolding refused checks
-refused-low bytes flags lent c e =
-    find-each Low (λ (d : Check). d .applies) (checks bytes flags (lengthsOf lent)) c
-    (omega arith, (omega arith, (omega arith, (omega arith, (omega arith, each-append Low (recordChecks [] (decode bytes)) _ (records-low [] (decode bytes)) (omega arith, (omega arith, tt)))))))
-    e
-
 module _ (branch : List ℕ) (flags : ℕ) (lent : Trays) where
   abbrev o : Outcome
   o = outcome branch flags (lengthsOf lent)
@@ -69,27 +45,17 @@ module _ (branch : List ℕ) (flags : ℕ) (lent : Trays) where
   keeps Full number place e h = let d : 12 ≡ number = cc in absurd (omega (arith, h, d))
   keeps (Ended s) number place e h = let d : _≡_ {A = ℕ} 0 1 = cc in absurd (omega arith)
 
-  zeroes : (x : Option Check) (place : ℕ) → refused branch flags (lengthsOf lent) ≡ x → answerOf (outcomeBy branch flags x) ≡ refusal 12 place → traysAfter (outcomeBy branch flags x) lent ≡ laidOver zeroTrays lent
-  unfolding answerOf traysAfter outcomeBy outcomeOfRun
-  zeroes (some c) place q e = let d : c .number ≡ 12 = cc in absurd (omega (arith, d, refused-low branch flags lent c q))
-  zeroes none place q e = go (full z) e
-    where
-      z : State
-      z = final (flagsOf flags) (decode branch)
-
-      go : (b : Bool) → answerOf (cond b Full (Ended z)) ≡ refusal 12 place → traysAfter (cond b Full (Ended z)) lent ≡ laidOver zeroTrays lent
-      go true d = refl
-      go false d = let k : _≡_ {A = ℕ} 0 1 = cc in absurd (omega arith)
-
   -- the answer and the trays give the other clauses
   contracted : (r : Answer) (left : Trays) → r ≡ answerOf o → left ≡ traysAfter o lent → Contract branch flags lent r left
   unfolding answer traysLeft outcome
   contracted r left a t =
+      let twelve = twelve-exactly branch flags lent in
       record {
         answers = a;
         leaves = t;
         refusalsKeep = λ number place e h. t ∙ keeps o number place (sym a ∙ e) h;
-        fullZeroes = λ place e. t ∙ zeroes (refused branch flags (lengthsOf lent)) place refl (sym a ∙ e);
+        fullExactly = (λ e. twelve .0 (sym a ∙ e), λ p. a ∙ twelve .1 p);
+        fullZeroes = λ place e. t ∙ twelve-zeroes branch flags lent place (sym a ∙ e);
         provedIsSound = λ p. demand-3 branch flags lent (subst Proved a p);
       }
 

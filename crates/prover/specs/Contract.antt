@@ -1,11 +1,15 @@
 -- The contract of the call, clause by clause. `lent` are the trays at entry, `left` the trays at exit.
 use mathlib.Core.Path.{_≡_}
 use mathlib.Core.List.{List}
+use mathlib.Core.Option.{none}
+use mathlib.Core.Logic.{_↔_}
 use Prim.Native.Nat.{ℕ, _≤_}
 use Rattle.definition.specs.Records.{decode}
+use Rattle.definition.specs.Checks.{refused}
 use Rattle.definition.specs.Flags.{flagsOf}
+use Rattle.definition.specs.Run.{Passes}
 use Rattle.definition.specs.Trays.{Trays, zeroTrays, laidOver}
-use Rattle.definition.specs.Call.{Answer, refusal, answer, traysLeft}
+use Rattle.definition.specs.Call.{Answer, refusal, answer, traysLeft, lengthsOf}
 use Rattle.definition.specs.Claim.{Proved, NoModel}
 
 abbrev pub trays : List ℕ → List ℕ → List ℕ → Trays
@@ -18,6 +22,8 @@ pub record Contract (branch : List ℕ) (flags : ℕ) (lent : Trays) (said : Ans
   pub leaves : left ≡ traysLeft branch flags lent
   -- "Refusals 1 to 11 write nothing"
   pub refusalsKeep : (number place : ℕ) → said ≡ refusal number place → number ≤ 11 → left ≡ lent
+  -- demand 2: ""full" comes exactly when that run passes 512 identifiers": the run is the paper's own loop, which knows no 512
+  pub fullExactly : (said ≡ refusal 12 0) ↔ ((refused branch flags (lengthsOf lent) ≡ none) × Passes (flagsOf flags) (decode branch))
   -- "12 zeroes the three lengths"
   pub fullZeroes : (place : ℕ) → said ≡ refusal 12 place → left ≡ laidOver zeroTrays lent
   -- demand 3: "if a verdict is returned in which `proved` is true, late beside it or not, then no world of any finite Kripke model

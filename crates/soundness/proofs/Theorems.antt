@@ -3,12 +3,12 @@ use mathlib.Core.Path.{_≡_, refl, ap, _∙_, subst}
 use mathlib.Core.Bool.{Bool, true, false, _||_}
 use mathlib.Core.List.{List}
 use mathlib.Core.Logic.{_⊎_, inl, inr, _≢_}
-use Prim.Native.Nat.{ℕ, suc, _<_, _≤_, _^_}
+use Prim.Native.Nat.{ℕ, _<_, _≤_, _^_}
 use native.Mathlib.Omega.{arith}
 use native.Mathlib.Nat.{lt-of-lt-of-le}
 use lib.Dec.{leb}
 use lib.Pow.{pow-mono}
-use borrow.Author.Tests.{leb-true, ltb-true, lt-ltb}
+use borrow.Author.Tests.{leb-true, ltb-true}
 use lib.ListN.{length}
 use Rattle.definition.specs.Limits.{mostIdentifiers, mostWorlds}
 use Rattle.definition.specs.Lists.{Each, empty, below}
@@ -67,20 +67,13 @@ pub stays-stopped : StaysStopped
 stays-stopped = Exact.final-more
 
 pub full-exactly : FullExactly
-unfolding full
-full-exactly F rs = (
-  λ h. (suc mostIdentifiers, ltb-true mostIdentifiers _ (Exact.full-passes F rs h)),
-  λ h. Exact.passes-full F rs (h .0) (lt-ltb mostIdentifiers _ (h .1)),
-)
+full-exactly = Exact.full-exactly
 
 pub not-full-exactly : NotFullExactly
 not-full-exactly = Exact.not-full-exact
 
 pub twelve-exactly : TwelveExactly
-twelve-exactly branch flags lent e =
-    let k = full-exactly (flagsOf flags) (decode branch) in
-    let f = Calls.twelve-full branch flags lent e in
-    (λ a. k .0 (f .0 a), λ p. f .1 (k .1 p))
+twelve-exactly = Calls.twelve-exactly
 
 pub twelve-zeroes : TwelveZeroes
 twelve-zeroes = Calls.twelve-zeroes

@@ -16,7 +16,7 @@ use Rattle.definition.specs.Models.{Model, Has, truth}
 use Rattle.definition.specs.Tree.{Node, Place, Left, Middle, Right, Root, Unplaced, nodeAt, leavesBelow, upward, leaves, path}
 use Rattle.definition.specs.Rules.{expansion, writtenRule, priest}
 use Rattle.definition.specs.Subtree.{Targeted, appendLogicRuleResult}
-use Rattle.definition.specs.Run.{State, apply, step, full, run, unlimitedRun, start, final}
+use Rattle.definition.specs.Run.{State, apply, step, full, run, unlimitedRun, start, Passes, final}
 use Rattle.definition.specs.Trays.{Trays, rowNumber, traysOf, zeroTrays, laidOver}
 use Rattle.definition.specs.Call.{Refused, Ended, outcome, refusal, answer, traysLeft, lengthsOf}
 use Rattle.definition.specs.Claim.{Proved, Reaching}
@@ -41,19 +41,19 @@ StaysStopped = (k : ℕ) (F : Flags) (rs : List Rec) → mostIdentifiers < k →
 
 -- "full" comes exactly when the paper's own loop passes 512 identifiers; otherwise the two runs are one
 abbrev pub FullExactly : Type 0
-FullExactly = (F : Flags) (rs : List Rec) → (full (final F rs) ≡ true) ↔ ((n : ℕ) × (mostIdentifiers < length (unlimitedRun n F (start F rs) .nodes)))
+FullExactly = (F : Flags) (rs : List Rec) → (full (final F rs) ≡ true) ↔ Passes F rs
 
 abbrev pub NotFullExactly : Type 0
 NotFullExactly = (k : ℕ) (F : Flags) (rs : List Rec) → mostIdentifiers < k → full (final F rs) ≡ false → unlimitedRun k F (start F rs) ≡ final F rs
 
--- so the call refuses with 12 exactly then, and zeroes the three lengths
+-- so the call refuses with 12 exactly if no check applies and that loop passes 512, and zeroes the three lengths
 abbrev pub TwelveExactly : Type 0
 TwelveExactly =
-    (branch : List ℕ) (flags : ℕ) (lent : Trays) → refused branch flags (lengthsOf lent) ≡ none →
-    (answer branch flags lent ≡ refusal 12 0) ↔ ((n : ℕ) × (mostIdentifiers < length (unlimitedRun n (flagsOf flags) (start (flagsOf flags) (decode branch)) .nodes)))
+    (branch : List ℕ) (flags : ℕ) (lent : Trays) →
+    (answer branch flags lent ≡ refusal 12 0) ↔ ((refused branch flags (lengthsOf lent) ≡ none) × Passes (flagsOf flags) (decode branch))
 
 abbrev pub TwelveZeroes : Type 0
-TwelveZeroes = (branch : List ℕ) (flags : ℕ) (lent : Trays) → refused branch flags (lengthsOf lent) ≡ none → answer branch flags lent ≡ refusal 12 0 → traysLeft branch flags lent ≡ laidOver zeroTrays lent
+TwelveZeroes = (branch : List ℕ) (flags : ℕ) (lent : Trays) (place : ℕ) → answer branch flags lent ≡ refusal 12 place → traysLeft branch flags lent ≡ laidOver zeroTrays lent
 
 -- "each identifier once": at every state, those that steps have taken and those that wait are as many as there are
 abbrev pub QueueCounts : Type 0
