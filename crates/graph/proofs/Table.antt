@@ -1,15 +1,23 @@
 -- The rule of the table of pairs. Where a proof gives `table` for the code's own array, antt computes the one and compares all 625 entries.
 use mathlib.Core.Path.{_≡_, _∙_}
+use mathlib.Core.List.{List, map}
 use Prim.Native.Nat.{ℕ, _+_, _*_, _/_, _%_, _<_}
-use mathlib.Core.List.{List}
 use native.Mathlib.Omega.{arith}
 use lib.ListN.{getD}
 use borrow.Author.Tests.{lt-ltb}
-use Rattle.graph.specs.Table.{code, table}
+use Rattle.definition.specs.Lists.{below}
 use Rattle.graph.proofs.Grid.{at-from}
 
-pub vertex-rule : {l : List ℕ} (k : ℕ) → l ≡ table → k < 625 → (getD l k 0 / 32 ≡ k / 25) × (getD l k 0 % 32 ≡ k % 25)
+-- the first world times 32, plus the second
+abbrev code : ℕ → ℕ
+code k = k / 25 * 32 + k % 25
+
+-- the pairs of worlds in rising order
+unfoldable pub table : List ℕ
+table = map code (below 625)
+
+pub vertex-rule : (k : ℕ) → k < 625 → (getD table k 0 / 32 ≡ k / 25) × (getD table k 0 % 32 ≡ k % 25)
 unfolding table
-vertex-rule {l} k same h =
+vertex-rule k h =
     let e : getD table k 0 ≡ k / 25 * 32 + k % 25 = at-from code 625 0 k k 0 (omega arith) ∙ rw (lt-ltb k 625 h) in
-    rw (same, e) (omega arith, omega arith)
+    (rw e (omega arith), rw e (omega arith))

@@ -3,7 +3,6 @@ use crate::GraphVertex;
 use crate::PossibleWorld;
 use crate::add_vertex;
 use crate::contains;
-use crate::vertices::table;
 use crate::vertices::vertex_at;
 ghost use mathlib.Core.Path.{_≡_};
 ghost use mathlib.Core.Bool.{Bool, cond, _&&_, _||_};
@@ -40,10 +39,9 @@ pub fn add_missing_reflexive_vertices(edges: &mut [u8; 625], worlds: usize)
     if 25 < worlds {
         return;
     }
-    let vertices = table();
     let mut n: usize = 0;
     while n < worlds * 25 {
-        let vertex = vertex_at(&vertices, n);
+        let vertex = vertex_at(n);
         let missing = is_reflexive_vertex(worlds, vertex);
         add_vertex_if(edges, vertex, missing);
         n += 1;
@@ -58,10 +56,9 @@ pub fn add_missing_symmetric_vertices(edges: &mut [u8; 625], worlds: usize)
         return;
     }
     let stood = *edges;
-    let vertices = table();
     let mut n: usize = 0;
     while n < worlds * 25 {
-        let vertex = vertex_at(&vertices, n);
+        let vertex = vertex_at(n);
         let missing = contains(&stood, vertex.to, vertex.from);
         add_vertex_if(edges, vertex, missing);
         n += 1;
@@ -119,10 +116,9 @@ pub fn add_missing_transitive_vertices(edges: &mut [u8; 625], worlds: usize)
         return;
     }
     let stood = *edges;
-    let vertices = table();
     let mut n: usize = 0;
     while n < worlds * 25 {
-        let vertex = vertex_at(&vertices, n);
+        let vertex = vertex_at(n);
         let missing = is_transitive_vertex(&stood, worlds, vertex);
         add_vertex_if(edges, vertex, missing);
         n += 1;

@@ -3,18 +3,10 @@ use crate::GraphVertex;
 use crate::PossibleWorld;
 ghost use mathlib.Core.Path.{_≡_};
 ghost use Prim.Native.Nat.{_/_, _%_, _<_, _≤_};
-ghost use Rattle.graph.specs.Table.{table};
 
-// The table, copied once for a scan.
-pub fn table() -> [u16; 625]
-    ensures { λ r. ⌜ r ≡ table ⌝ }
-{
-    VERTICES
-}
-
-// The n-th pair of worlds of the table; past its end, the first.
-pub fn vertex_at(vertices: &[u16; 625], n: usize) -> GraphVertex
-    ensures { λ r. ⌜ (now (vertices .entry) ≡ table → n < 625 → (r .from .0 ≡ n / 25) × (r .to .0 ≡ n % 25)) × (625 ≤ n → (r .from .0 ≡ 0) × (r .to .0 ≡ 0)) ⌝ }
+// The n-th pair of worlds in rising order; past the last, the first.
+pub fn vertex_at(n: usize) -> GraphVertex
+    ensures { λ r. ⌜ (n < 625 → (r .from .0 ≡ n / 25) × (r .to .0 ≡ n % 25)) × (625 ≤ n → (r .from .0 ≡ 0) × (r .to .0 ≡ 0)) ⌝ }
 {
     if 625 <= n {
         return GraphVertex {
@@ -22,7 +14,7 @@ pub fn vertex_at(vertices: &[u16; 625], n: usize) -> GraphVertex
             to: PossibleWorld::ZERO,
         };
     }
-    let code = vertices[n];
+    let code = VERTICES[n];
     GraphVertex {
         from: PossibleWorld(code / 32),
         to: PossibleWorld(code % 32),

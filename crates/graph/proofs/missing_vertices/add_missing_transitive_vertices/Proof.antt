@@ -13,10 +13,10 @@ use Rattle.graph.proofs.missing_vertices.add_missing_transitive_vertice
 use Rattle.graph.proofs.missing_vertices.add_missing_transitive_vertices.Tie as tie
 
 abbrev Inv-loop : tie.InvT-loop
-Inv-loop edges₀ worlds stood vertices n₀ edges n = (n ≤ worlds * 25) × ((g : Graph) → Drawn g worlds edges₀ → edges ≡ grid (scanned (edge g) (transitives g) n))
+Inv-loop edges₀ worlds stood n₀ edges n = (n ≤ worlds * 25) × ((g : Graph) → Drawn g worlds edges₀ → edges ≡ grid (scanned (edge g) (transitives g) n))
 
 abbrev μ-loop : tie.MeasureT-loop
-μ-loop edges₀ worlds stood vertices n₀ edges n = worlds * 25 - n
+μ-loop edges₀ worlds stood n₀ edges n = worlds * 25 - n
 
 returns : tie.Need-returns Inv-loop μ-loop
 returns c = λ g d. absurd (omega (arith, c .if1 .taken, d .room))
@@ -25,7 +25,7 @@ loop-holds : tie.Need-loop-holds Inv-loop μ-loop
 loop-holds c = (search needs, λ g d. d .cells ∙ scan-start (edge g) _)
 
 loop-again : tie.Need-loop-again Inv-loop μ-loop
-loop-again c = (search needs, λ g d. scan-next (edge g) (transitives g) _ _ _ _ _ _ (c .before .before .before .before .vertex-at .ensures .0 (c .before .before .before .before .before .before .before .before .table .ensures) (omega (arith, c .before .before .before .before .before .before .loop-test .taken, c .before .before .before .before .before .before .before .before .before .before .if1 .left))) (c .before .before .is-transitive-vertex .ensures g d) (c .before .before .before .before .before .before .before .loop .inv .1 g d) (c .add-vertex-if .ensures))
+loop-again c = (search needs, λ g d. scan-next (edge g) (transitives g) _ _ _ _ _ _ (c .before .before .before .before .vertex-at .ensures .0 (omega (arith, c .before .before .before .before .before .loop-test .taken, c .before .before .before .before .before .before .before .before .if1 .left))) (c .before .before .is-transitive-vertex .ensures g d) (c .before .before .before .before .before .before .loop .inv .1 g d) (c .add-vertex-if .ensures))
 
 returns-2 : tie.Need-returns-2 Inv-loop μ-loop
 returns-2 c = λ g d. drawn-transitive d (c .before .loop .inv .1 g d ∙ scan-end (edge g) _ _ _ (c .loop-test .left) (λ u w h. transitives-out d u w (inl h)))
@@ -33,4 +33,4 @@ returns-2 c = λ g d. drawn-transitive d (c .before .loop .inv .1 g d ∙ scan-e
 pub add-missing-transitive-vertices-spec : {M : Type 1} → statement M
 add-missing-transitive-vertices-spec =
     tie.close
-    (tie.spec Inv-loop μ-loop returns (λ c κs. search needs) loop-holds (λ c. search needs) (λ c κs. search needs) (λ c κs. search needs) (λ c κs. search needs) (λ c. search needs) (λ c. search needs) loop-again returns-2)
+    (tie.spec Inv-loop μ-loop returns loop-holds (λ c. search needs) (λ c κs. search needs) (λ c κs. search needs) (λ c κs. search needs) (λ c. search needs) (λ c. search needs) loop-again returns-2)
