@@ -92,15 +92,20 @@ pub fn is_transitive_vertex(edges: &[u8; 625], worlds: usize, vertex: GraphVerte
     }
     let from = vertex.from;
     let to = vertex.to;
+    if worlds <= from.0 as usize {
+        return false;
+    }
     if worlds <= to.0 as usize {
         return false;
     }
     if contains(edges, from, to) {
         return true;
     }
+    let row = from.0 as usize * 25;
     let mut v: usize = 0;
     while v < worlds {
-        if is_paired(edges, vertex, PossibleWorld(v as u16)) {
+        let step = vertex_at(row + v);
+        if is_paired(edges, vertex, step.to) {
             return true;
         }
         v += 1;
