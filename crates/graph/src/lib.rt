@@ -9,7 +9,7 @@ use missing_vertices::add_missing_transitive_vertices;
 use missing_vertices::add_vertex_if;
 ghost use mathlib.Core.Path.{_≡_};
 ghost use mathlib.Core.Bool.{Bool};
-ghost use Prim.Native.Nat.{ℕ, suc, min, _<_};
+ghost use Prim.Native.Nat.{ℕ, suc, min, _<_, _≤_};
 ghost use lib.Dec.{eqb};
 ghost use Rattle.definition.specs.Flags.{Flags};
 ghost use Rattle.definition.specs.Graph.{Graph, edge, addMissingGraphVertices, initializeGraphIfNeeded, fork};
@@ -132,7 +132,8 @@ pub fn fork_world(
     u: PossibleWorld,
     logic: NormalModalLogic,
 ) -> usize
-    ensures { λ r. ⌜ ((F : Flags) (g : Graph) → logic ≡ logicOf F → worlds < 25 → Drawn g worlds (now (edges .entry)) → Drawn (fork F g (u .0)) r (now (edges .exit))) ⌝ }
+    ensures { λ r. ⌜ ((F : Flags) (g : Graph) → logic ≡ logicOf F → worlds < 25 → Drawn g worlds (now (edges .entry)) → Drawn (fork F g (u .0)) r (now (edges .exit)))
+        × (25 ≤ worlds → (r ≡ worlds) × (now (edges .exit) ≡ now (edges .entry))) ⌝ }
 {
     if 25 <= worlds {
         return worlds;
