@@ -13,7 +13,7 @@ use Rattle.definition.specs.Modality.{Necessity, runsThrough, unvisited}
 use Rattle.definition.proofs.Lists.{each-get}
 use Rattle.tree.specs.Lay.{Held}
 use Rattle.tree.proofs.Nodes.{held-as}
-use Rattle.modality.proofs.Lists.{kept-next, kept-all, filter-both}
+use Rattle.modality.proofs.Lists.{kept-next, kept-all, filter-both, filter-no}
 
 -- ---- what is kept
 abbrev pub fresh : Graph → ℕ → List ℕ → ℕ → Bool
@@ -25,6 +25,10 @@ unvisited-by g n u w e f =
     ap (λ (x : ℕ). filter (fresh g x (n .visited)) (below w)) (sym e)
     ∙ ap (λ (x : ℕ). filter (fresh g (n .world) (n .visited)) (below x)) f
     ∙ filter-both (λ v. not (elem v (n .visited))) (edge g (n .world)) (below (g .worlds))
+
+-- of a world that reaches none
+pub unvisited-none : (g : Graph) (n : Necessity) (u : ℕ) → n .world ≡ u → ((v : ℕ) → edge g u v ≡ false) → unvisited g n ≡ []
+unvisited-none g n u e h = sym (unvisited-by g n u (g .worlds) e refl) ∙ filter-no (fresh g u (n .visited)) (λ v. rw (h v)) (below (g .worlds))
 
 abbrev pub through : List Node → Necessity → ℕ → Bool
 through t n leaf = runsThrough n (path t leaf)

@@ -71,6 +71,10 @@ kept-next p xs j x h e q = rw (add-one, take-suc xs j 0 h, q, e) (filter-append 
 pub kept-all : (p : ℕ → Bool) (xs : List ℕ) (j : ℕ) → length xs ≤ j → filter p (take j xs) ≡ filter p xs
 kept-all p xs j h = ap (filter p) (take-all j xs h)
 
+pub filter-no : (p : ℕ → Bool) → ((x : ℕ) → p x ≡ false) → (xs : List ℕ) → filter p xs ≡ []
+filter-no p h [] = refl
+filter-no p h (x ∷ xs) = rw (h x) (filter-no p h xs)
+
 pub filter-both : (p q : ℕ → Bool) (xs : List ℕ) → filter (λ x. q x && p x) xs ≡ filter p (filter q xs)
 filter-both p q [] = refl
 filter-both p q (x ∷ xs) = go (q x) (p x) refl refl (filter-both p q xs)

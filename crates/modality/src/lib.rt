@@ -6,6 +6,7 @@ use bits::bit;
 use bits::with_bit;
 use formula::FormulaNumber;
 use graph::PossibleWorld;
+use graph::vertices::vertex_at;
 use tree::Chain;
 use tree::IssuedChain;
 use tree::ProofTreeNodeID;
@@ -320,15 +321,19 @@ pub fn unvisited(
 ) -> usize
     ensures { λ r. ⌜ ((g : Graph) (n : Necessity) (l : List ℕ) → n .world ≡ u .0 → Drawn g worlds (now (edges .entry)) → InWord (n .visited) visited → Listed l c (now (out .entry)) → Listed (l ++ unvisited g n) r (now (out .exit))) ⌝ }
 {
+    let from = u.0 as usize;
     if 25 < worlds {
+        return c;
+    }
+    if worlds <= from {
         return c;
     }
     let mut n = c;
     let mut v: usize = 0;
     while v < worlds {
-        let w = v as u16;
-        let gives = is_unvisited(edges, visited, u, PossibleWorld(w));
-        n = push_if(out, n, w, gives);
+        let step = vertex_at(from * 25 + v);
+        let gives = is_unvisited(edges, visited, step.from, step.to);
+        n = push_if(out, n, step.to.0, gives);
         v += 1;
     }
     n
