@@ -1,19 +1,13 @@
 -- Loops that list the elements of a list which pass a test.
 use Prim.Native.Nat.{ℕ, _+_, _<_, _≤_}
-use mathlib.Core.Path.{_≡_, refl, sym, ap, _∙_}
-use mathlib.Core.Bool.{Bool, true, false, cond}
+use mathlib.Core.Path.{_≡_, sym, ap, _∙_}
+use mathlib.Core.Bool.{Bool, cond}
 use mathlib.Core.List.{List, [], _∷_, _++_, append-assoc, append-nil}
 use lib.ListN.{length, getD, take}
 use Rattle.arrays.specs.Listed.{Listed}
 use Rattle.definition.specs.Lists.{filter}
 use Rattle.tree.proofs.Paths.{listed-as}
 use Rattle.modality.proofs.Lists.{kept-next, kept-all}
-
-pub fill-one : (l : List ℕ) {n : ℕ} {a : List ℕ} (v : ℕ) {b : Bool} → b ≡ true → Listed (l ++ (v ∷ [])) n a → Listed (l ++ cond b (v ∷ []) []) n a
-fill-one l v {b} e p = listed-as (l ++ cond b (v ∷ []) []) (rw e refl) p
-
-pub fill-none : (l : List ℕ) {n : ℕ} {a : List ℕ} (v : ℕ) {b : Bool} → b ≡ false → Listed l n a → Listed (l ++ cond b (v ∷ []) []) n a
-fill-none l v {b} e p = listed-as (l ++ cond b (v ∷ []) []) (rw e (sym (append-nil l))) p
 
 module _ (p : ℕ → Bool) (xs l : List ℕ) where
   pub fill-start : {n : ℕ} {a : List ℕ} → Listed l n a → Listed (l ++ filter p (take 0 xs)) n a

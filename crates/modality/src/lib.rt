@@ -1,7 +1,7 @@
 // Necessities: what is stored of them, on which paths they are given again, and what they give there.
 // Of a call whose arrays lay out nothing of the kind that its contract names: it ends and stays in bounds; its outcome is free.
 use arrays::nth;
-use arrays::push;
+use arrays::push_if;
 use bits::bit;
 use bits::with_bit;
 use formula::FormulaNumber;
@@ -45,10 +45,10 @@ pub struct Forking {
 }
 
 // Row k of a table of bits has y.
-pub fn row_contains(words: &[u32; 8192], k: usize, y: u16) -> bool
-    ensures { λ r. ⌜ ((l : List ℕ) → InRow k l (now (words .entry)) → r ≡ elem y l) ⌝ }
+pub fn row_contains(words: &[u32; 8192], k: usize, y: ProofTreeNodeID) -> bool
+    ensures { λ r. ⌜ ((l : List ℕ) → InRow k l (now (words .entry)) → r ≡ elem (y .0) l) ⌝ }
 {
-    let at = y as usize;
+    let at = y.0 as usize;
     if 512 <= k {
         return false;
     }
@@ -59,13 +59,13 @@ pub fn row_contains(words: &[u32; 8192], k: usize, y: u16) -> bool
 }
 
 // The word has the bit of y.
-fn word_contains(word: u32, y: u16) -> bool
-    ensures { λ r. ⌜ ((l : List ℕ) → InWord l word → r ≡ elem y l) ⌝ }
+fn word_contains(word: u32, y: PossibleWorld) -> bool
+    ensures { λ r. ⌜ ((l : List ℕ) → InWord l word → r ≡ elem (y .0) l) ⌝ }
 {
-    if 32 <= y {
+    if 32 <= y.0 {
         return false;
     }
-    bits::bit(word, y as usize)
+    bit(word, y.0 as usize)
 }
 
 // The parent of x in the tree as it stood, when it had `base` nodes.
@@ -103,7 +103,7 @@ pub fn path_runs_through(
         if cur.is_none() {
             return false;
         }
-        if row_contains(leafs, k, cur.0) {
+        if row_contains(leafs, k, cur) {
             return true;
         }
         cur = parent_before(tree, base, cur);
@@ -134,16 +134,6 @@ pub fn path_goes_through(
         j += 1;
     }
     false
-}
-
-// One entry more, if it is to be kept.
-fn push_if(out: &mut [u16; 512], n: usize, v: u16, keep: bool) -> usize
-    ensures { λ r. ⌜ ((l : List ℕ) → Listed l n (now (out .entry)) → Listed (l ++ cond keep (v ∷ []) []) r (now (out .exit))) ⌝ }
-{
-    if keep {
-        return push(out, n, v);
-    }
-    n
 }
 
 // Of the listed leaves, those whose paths run through a leaf stored in row k.
@@ -274,10 +264,10 @@ fn worlds_on(tree: &[u16; 4608], base: usize, forking: Forking, leaf: ProofTreeN
 }
 
 // Stores the word of leaf x.
-fn put_word(seen: &mut [u32; 512], x: u16, word: u32)
-    ensures { λ r. ⌜ (x < 512 → now (seen .exit) ≡ set (now (seen .entry)) x word) ⌝ }
+fn put_word(seen: &mut [u32; 512], x: ProofTreeNodeID, word: u32)
+    ensures { λ r. ⌜ (x .0 < 512 → now (seen .exit) ≡ set (now (seen .entry)) (x .0) word) ⌝ }
 {
-    let i = x as usize;
+    let i = x.0 as usize;
     if 512 <= i {
         return;
     }
@@ -297,8 +287,8 @@ pub fn worlds_on_paths(
         → Each (Seen t (forkOf forking) (now (seen .exit))) ls) ⌝ }
 {
     for j in 0..m {
-        let leaf = nth(on, j);
-        let word = worlds_on(tree, base, forking, ProofTreeNodeID(leaf));
+        let leaf = ProofTreeNodeID(nth(on, j));
+        let word = worlds_on(tree, base, forking, leaf);
         put_word(seen, leaf, word);
     }
 }
@@ -307,7 +297,7 @@ pub fn worlds_on_paths(
 fn is_unvisited(edges: &[u8; 625], visited: u32, u: PossibleWorld, v: PossibleWorld) -> bool
     ensures { λ r. ⌜ ((g : Graph) (w : ℕ) (l : List ℕ) → Drawn g w (now (edges .entry)) → InWord l visited → r ≡ (edge g (u .0) (v .0) && not (elem (v .0) l))) ⌝ }
 {
-    graph::contains(edges, u, v) && !word_contains(visited, v.0)
+    graph::contains(edges, u, v) && !word_contains(visited, v)
 }
 
 // The worlds that u reaches and that are not visited, rising.

@@ -10,18 +10,9 @@ returns c = λ l d. absurd (omega (arith, d .row, c .if1 .taken))
 returns-2 : tie.Need-returns-2
 returns-2 c = λ l d. row-none d _ (c .if2 .taken)
 
-mul-contains : tie.Need-mul-contains
-mul-contains c = search needs
-
-add-contains : tie.Need-add-contains
-add-contains c = search needs
-
-contains-requires : tie.Need-contains-requires
-contains-requires c κs = search needs
-
 returns-3 : tie.Need-returns-3
 returns-3 c = λ l d. row-has d _ (c .before .if2 .left) (c .contains .ensures)
 
 pub row-contains-spec : {M : Type 1} → statement M
 row-contains-spec =
-    tie.close (tie.spec returns returns-2 mul-contains add-contains contains-requires returns-3)
+    tie.close (tie.spec (λ c. search needs) returns returns-2 (λ c. search needs) (λ c. search needs) (λ c κs. search needs) returns-3)
