@@ -1,25 +1,25 @@
 -- The worlds that occur on a path, gathered from its nodes.
-use Prim.Native.Nat.{ℕ, _+_, _-_, _%_, _<_, _≤_, suc}
+use Prim.Native.Nat.{ℕ, zero, suc, _+_, _-_, _%_, _<_, _≤_}
 use mathlib.Core.Path.{_≡_, refl, sym, ap, _∙_, subst}
 use mathlib.Core.Bool.{Bool, true, false, cond, _&&_, _||_}
 use mathlib.Core.List.{List, [], _∷_}
 use mathlib.Core.Option.{Option, none, some}
-use mathlib.Core.Logic.{⊎-elim}
+use mathlib.Core.Logic.{⊎-elim, _≢_}
 use native.Mathlib.Omega.{arith}
 use native.Mathlib.Numerals.{add-one}
-use lib.Dec.{eqb}
+use lib.Dec.{ltb, eqb}
 use lib.ListN.{length, getD, set, take, length-set}
 use lib.Seq.{take-suc, take-all, getD-set-same, getD-set-other}
-use borrow.Author.Tests.{ne-eqb}
+use borrow.Author.Tests.{ltb-true, ltb-false, eqb-false, ne-eqb}
 use Rattle.bits.specs.Bits.{bitOf}
 use Rattle.bits.proofs.Power.{no-bit}
 use Rattle.arrays.specs.Listed.{Listed}
 use Rattle.arrays.proofs.Listed.{listed-count}
-use Rattle.definition.specs.Lists.{Each, any}
+use Rattle.definition.specs.Lists.{Each, any, elem}
 use Rattle.definition.specs.Records.{isNobody}
 use Rattle.definition.specs.Tree.{Node, nodeAt, upward, path}
 use Rattle.definition.specs.Modality.{Fork, forkedOn, occurs}
-use Rattle.definition.proofs.Lists.{alike, each-get, each-map, each-append}
+use Rattle.definition.proofs.Lists.{or-left, or-right, either, alike, each-get, each-map, each-append}
 use Rattle.tree.proofs.Paths.{up-zero, up-nobody, up-node, climb-start}
 use Rattle.modality.specs.declared.Forking.{Forking}
 use Rattle.modality.specs.Forking.{forkOf}
@@ -123,6 +123,11 @@ module _ (t : List Node) (p : ℕ → Bool) {goal : Bool} (len j cur : ℕ) (wor
       ∙ ap (λ (l : List ℕ). word || any p l) (sym (ap (λ (d : ℕ). upward d t cur) z ∙ up-node t (len - (j + 1)) cur (sym e ∙ node))) ∙ inv
 
 -- ---- a loop that stores them, leaf by leaf
+elem-not : (x : ℕ) (xs : List ℕ) → elem x xs ≡ false → (j : ℕ) → j < length xs → x ≢ getD xs j 0
+elem-not x [] e j h q = absurd (omega arith)
+elem-not x (y ∷ ys) e zero h q = eqb-false x y (or-left (eqb x y) (elem x ys) e) q
+elem-not x (y ∷ ys) e (suc j) h q = elem-not x ys (or-right (eqb x y) (elem x ys) e) j (omega arith) q
+
 module _ (t : List Node) (k : Option Fork) (ls : List ℕ) {m : ℕ} {o : List ℕ} (l : Listed ls m o) (small : m ≤ 512) where
   module _ (a : List ℕ) (j leaf word : ℕ) (low : leaf < 512) (has : (v : ℕ) → v < 32 → bitOf word v ≡ occurs t k (path t leaf) v) (long : length a ≡ 512) where
     stored : Seen t k (set a leaf word) leaf
@@ -145,3 +150,10 @@ module _ (t : List Node) (k : Option Fork) (ls : List ℕ) {m : ℕ} {o : List �
 
   pub seen-end : (a : List ℕ) (j : ℕ) → m ≤ j → Each (Seen t k a) (take j ls) → Each (Seen t k a) ls
   seen-end a j h seen = rw (take-all j ls (omega (arith, listed-count l small, h))) at seen
+
+-- an entry that is none of theirs
+module _ (ls : List ℕ) {m : ℕ} {o : List ℕ} (l : Listed ls m o) (small : m ≤ 512) where
+  pub other-next : (a b : List ℕ) (j leaf word x : ℕ) → j < m → leaf ≡ getD ls j 0 → elem x ls ≡ false → (leaf < 512 → b ≡ set a leaf word) × (512 ≤ leaf → b ≡ a) → getD b x 0 ≡ getD a x 0
+  other-next a b j leaf word x h e out put =
+      let apart : x ≢ leaf = λ q. elem-not x ls out j (omega (arith, h, listed-count l small)) (q ∙ e) in
+      ⊎-elim (λ s. rw (put .0 (ltb-true leaf 512 s)) (getD-set-other a leaf x word 0 apart)) (λ s. rw (put .1 (ltb-false leaf 512 s)) refl) (either (ltb leaf 512))

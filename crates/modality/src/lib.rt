@@ -16,11 +16,11 @@ use tree::parent_of;
 use tree::place_of;
 use tree::world_of;
 ghost use mathlib.Core.Path.{_≡_};
-ghost use mathlib.Core.Bool.{Bool, cond, _&&_, _||_, not};
+ghost use mathlib.Core.Bool.{Bool, false, cond, _&&_, _||_, not};
 ghost use mathlib.Core.List.{List, [], _∷_, _++_, map};
 ghost use Prim.Native.Nat.{ℕ, _≤_, _<_, _+_};
 ghost use lib.Dec.{eqb};
-ghost use lib.ListN.{length, set};
+ghost use lib.ListN.{length, getD, set};
 ghost use Rattle.arrays.specs.Listed.{Listed};
 ghost use Rattle.bits.specs.Bits.{bitOf};
 ghost use Rattle.definition.specs.Lists.{Each, elem, filter};
@@ -265,7 +265,7 @@ fn worlds_on(tree: &[u16; 4608], base: usize, forking: Forking, leaf: ProofTreeN
 
 // Stores the word of leaf x.
 fn put_word(seen: &mut [u32; 512], x: ProofTreeNodeID, word: u32)
-    ensures { λ r. ⌜ (x .0 < 512 → now (seen .exit) ≡ set (now (seen .entry)) (x .0) word) ⌝ }
+    ensures { λ r. ⌜ (x .0 < 512 → now (seen .exit) ≡ set (now (seen .entry)) (x .0) word) × (512 ≤ x .0 → now (seen .exit) ≡ now (seen .entry)) ⌝ }
 {
     let i = x.0 as usize;
     if 512 <= i {
@@ -274,7 +274,7 @@ fn put_word(seen: &mut [u32; 512], x: ProofTreeNodeID, word: u32)
     seen[i] = word;
 }
 
-// Stores the worlds that occur on the paths of the listed leaves, each at its leaf.
+// Stores the worlds that occur on the paths of the listed leaves, each at its leaf. The other entries stay.
 pub fn worlds_on_paths(
     tree: &[u16; 4608],
     base: usize,
@@ -284,7 +284,8 @@ pub fn worlds_on_paths(
     seen: &mut [u32; 512],
 )
     ensures { λ r. ⌜ ((t : List Node) (ls : List ℕ) → Stands t base (now (tree .entry)) → Listed ls m (now (on .entry)) → m ≤ 512 → Each (λ l. l < 512) ls → length (now (seen .entry)) ≡ 512
-        → Each (Seen t (forkOf forking) (now (seen .exit))) ls) ⌝ }
+        → Each (Seen t (forkOf forking) (now (seen .exit))) ls)
+        × ((ls : List ℕ) → Listed ls m (now (on .entry)) → m ≤ 512 → (x : ℕ) → elem x ls ≡ false → getD (now (seen .exit)) x 0 ≡ getD (now (seen .entry)) x 0) ⌝ }
 {
     for j in 0..m {
         let leaf = ProofTreeNodeID(nth(on, j));

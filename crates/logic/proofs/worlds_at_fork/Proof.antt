@@ -22,7 +22,7 @@ worlds-on-paths-requires c κs = search needs
 returns-2 : tie.Need-returns-2
 returns-2 c = λ t r count fits laid long some.
     let lv = all-leaves t r count fits (c .before .before .before .leaves-below .ensures t [] (omega (arith, count, fits)) laid listed-none) in
-    c .worlds-on-paths .ensures t _ (stands t [] count (held-as (t ++ []) (sym (append-nil t)) (held fits count laid)) fits) (lv .0) (lv .1) (leaves-low t r count fits) long
+    c .worlds-on-paths .ensures .0 t _ (stands t [] count (held-as (t ++ []) (sym (append-nil t)) (held fits count laid)) fits) (lv .0) (lv .1) (leaves-low t r count fits) long
 
 pub worlds-at-fork-spec : {M : Type 1} → statement M
 worlds-at-fork-spec =

@@ -1,59 +1,40 @@
 use borrow.Author.Needs.{needs}
 use Prim.Native.Nat.{ℕ, _≤_, _<_, _-_}
-use mathlib.Core.Path.{_≡_}
+use mathlib.Core.Path.{_≡_, refl, _∙_}
+use mathlib.Core.Bool.{false}
 use mathlib.Core.List.{List}
-use lib.ListN.{length, take}
+use lib.ListN.{length, getD, take}
 use Rattle.arrays.specs.Listed.{Listed}
-use Rattle.definition.specs.Lists.{Each}
+use Rattle.definition.specs.Lists.{Each, elem}
 use Rattle.definition.specs.Tree.{Node}
 use Rattle.modality.specs.Stands.{Stands}
 use Rattle.modality.specs.Forking.{forkOf}
 use Rattle.modality.specs.Seen.{Seen}
-use Rattle.modality.proofs.Worlds.{seen-next, seen-end}
+use Rattle.modality.proofs.Worlds.{seen-next, seen-end, other-next}
 use Rattle.modality.proofs.worlds_on_paths.Statement.{statement}
 use Rattle.modality.proofs.worlds_on_paths.Tie as tie
 
 abbrev Inv-loop : tie.InvT-loop
 Inv-loop tree base forking on m seen₀ j₀ seen j = (j ≤ m) × ((t : List Node) (ls : List ℕ) → Stands t base tree → Listed ls m on → m ≤ 512 → Each (λ l. l < 512) ls → length seen₀ ≡ 512 → (length seen ≡ 512) × Each (Seen t (forkOf forking) seen) (take j ls))
+    × ((ls : List ℕ) → Listed ls m on → m ≤ 512 → (x : ℕ) → elem x ls ≡ false → getD seen x 0 ≡ getD seen₀ x 0)
 
 abbrev μ-loop : tie.MeasureT-loop
 μ-loop tree base forking on m seen₀ j₀ seen j = m - j
 
 loop-holds : tie.Need-loop-holds Inv-loop μ-loop
-loop-holds c = (search needs, λ t ls d l small low long. (long, tt))
-
-nth-requires : tie.Need-nth-requires Inv-loop μ-loop
-nth-requires c κs = search needs
-
-worlds-on-requires : tie.Need-worlds-on-requires Inv-loop μ-loop
-worlds-on-requires c κs = search needs
-
-put-word-requires : tie.Need-put-word-requires Inv-loop μ-loop
-put-word-requires c κs = search needs
-
-add-j : tie.Need-add-j Inv-loop μ-loop
-add-j c = search needs
-
-loop-less : tie.Need-loop-less Inv-loop μ-loop
-loop-less c = search needs
+loop-holds c = (search needs, λ t ls d l small low long. (long, tt), λ ls l small x out. refl)
 
 loop-again : tie.Need-loop-again Inv-loop μ-loop
-loop-again c = (search needs, λ t ls d l small low long. seen-next t (forkOf (c .before .before .before .before .before .before .args .forking)) ls l small _ _ (c .before .before .before .before .before .loop .j) _ _ low (c .before .before .before .before .loop-test .taken) (c .before .before .before .nth .ensures .0 ls _ l small) (c .before .before .worlds-on .ensures t d) (c .put-word .ensures) (c .before .before .before .before .before .loop .inv .1 t ls d l small low long))
+loop-again c = (
+  search needs,
+  λ t ls d l small low long. seen-next t (forkOf (c .before .before .before .before .before .before .args .forking)) ls l small _ _ (c .before .before .before .before .before .loop .j) _ _ low (c .before .before .before .before .loop-test .taken) (c .before .before .before .nth .ensures .0 ls _ l small) (c .before .before .worlds-on .ensures t d) (c .put-word .ensures .0) (c .before .before .before .before .before .loop .inv .1 t ls d l small low long),
+  λ ls l small x out. other-next ls l small _ _ (c .before .before .before .before .before .loop .j) _ _ x (c .before .before .before .before .loop-test .taken) (c .before .before .before .nth .ensures .0 ls _ l small) out (c .put-word .ensures) ∙ c .before .before .before .before .before .loop .inv .2 ls l small x out,
+)
 
 returns : tie.Need-returns Inv-loop μ-loop
-returns c = λ t ls d l small low long. seen-end t (forkOf (c .before .before .args .forking)) ls l small _ _ (c .loop-test .left) (c .before .loop .inv .1 t ls d l small low long .1)
+returns c = (λ t ls d l small low long. seen-end t (forkOf (c .before .before .args .forking)) ls l small _ _ (c .loop-test .left) (c .before .loop .inv .1 t ls d l small low long .1), c .before .loop .inv .2)
 
 pub worlds-on-paths-spec : {M : Type 1} → statement M
 worlds-on-paths-spec =
     tie.close
-    (tie.spec
-    Inv-loop
-    μ-loop
-    loop-holds
-    nth-requires
-    worlds-on-requires
-    put-word-requires
-    add-j
-    loop-less
-    loop-again
-    returns)
+    (tie.spec Inv-loop μ-loop loop-holds (λ c κs. search needs) (λ c κs. search needs) (λ c κs. search needs) (λ c. search needs) (λ c. search needs) loop-again returns)
