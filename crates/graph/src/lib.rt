@@ -1,6 +1,6 @@
 // The world graph.
 // Of a call whose arrays lay out nothing of the kind that its contract names: it ends and stays in bounds; its outcome is free.
-pub mod missing_vertices;
+mod missing_vertices;
 pub mod vertices;
 
 use missing_vertices::add_missing_reflexive_vertices;
@@ -22,7 +22,7 @@ impl PossibleWorld {
     pub const ZERO: PossibleWorld = PossibleWorld(0);
 
     // The next world. The last index stays.
-    pub fn fork(self) -> PossibleWorld
+    fn fork(self) -> PossibleWorld
         ensures { λ r. ⌜ r .0 ≡ min (suc (self .0)) 65535 ⌝ }
     {
         if self.0 == 65535 {
@@ -61,7 +61,7 @@ pub fn contains(edges: &[u8; 625], u: PossibleWorld, v: PossibleWorld) -> bool
 }
 
 // One edge more, where both worlds have a place.
-pub fn add_vertex(edges: &mut [u8; 625], u: PossibleWorld, v: PossibleWorld)
+fn add_vertex(edges: &mut [u8; 625], u: PossibleWorld, v: PossibleWorld)
     ensures { λ r. ⌜ ((e : ℕ → ℕ → Bool) → now (edges .entry) ≡ grid e → now (edges .exit) ≡ grid (withVertex e (u .0) (v .0))) ⌝ }
 {
     let from = u.0 as usize;
@@ -83,7 +83,7 @@ pub struct NormalModalLogic {
 }
 
 // The missing edges of a graph of so many worlds: reflexive, symmetric, transitive, each if flagged.
-pub fn add_missing_graph_vertices(edges: &mut [u8; 625], worlds: usize, logic: NormalModalLogic)
+fn add_missing_graph_vertices(edges: &mut [u8; 625], worlds: usize, logic: NormalModalLogic)
     ensures { λ r. ⌜ ((F : Flags) (g : Graph) → logic ≡ logicOf F → Drawn g worlds (now (edges .entry)) → Drawn (addMissingGraphVertices F g) worlds (now (edges .exit))) ⌝ }
 {
     if logic.is_reflexive {

@@ -22,7 +22,7 @@ pub fn add_vertex_if(edges: &mut [u8; 625], vertex: GraphVertex, missing: bool)
 }
 
 // Whether the edge runs from one of the worlds to itself.
-pub fn is_reflexive_vertex(worlds: usize, vertex: GraphVertex) -> bool
+fn is_reflexive_vertex(worlds: usize, vertex: GraphVertex) -> bool
     ensures { λ r. ⌜ r ≡ (ltb (vertex .from .0) worlds && eqb (vertex .from .0) (vertex .to .0)) ⌝ }
 {
     let from = vertex.from;
@@ -66,7 +66,7 @@ pub fn add_missing_symmetric_vertices(edges: &mut [u8; 625], worlds: usize)
 }
 
 // Whether one edge leads to v, and an unequal one from v on.
-pub fn is_paired(edges: &[u8; 625], vertex: GraphVertex, v: PossibleWorld) -> bool
+fn is_paired(edges: &[u8; 625], vertex: GraphVertex, v: PossibleWorld) -> bool
     ensures { λ r. ⌜ ((g : Graph) (k : ℕ) → Drawn g k (now (edges .entry)) → r ≡ paired g (vertex .from .0) (vertex .to .0) (v .0)) ⌝ }
 {
     let from = vertex.from;
@@ -84,7 +84,7 @@ pub fn is_paired(edges: &[u8; 625], vertex: GraphVertex, v: PossibleWorld) -> bo
 }
 
 // Whether the edge is there, or two unequal edges lead from its first world to its last.
-pub fn is_transitive_vertex(edges: &[u8; 625], worlds: usize, vertex: GraphVertex) -> bool
+fn is_transitive_vertex(edges: &[u8; 625], worlds: usize, vertex: GraphVertex) -> bool
     ensures { λ r. ⌜ ((g : Graph) → Drawn g worlds (now (edges .entry)) → r ≡ (edge g (vertex .from .0) (vertex .to .0) || any (paired g (vertex .from .0) (vertex .to .0)) (below (g .worlds)))) ⌝ }
 {
     if 25 < worlds {

@@ -45,7 +45,7 @@ pub struct Forking {
 }
 
 // Row k of a table of bits has y.
-pub fn row_contains(words: &[u32; 8192], k: usize, y: ProofTreeNodeID) -> bool
+fn row_contains(words: &[u32; 8192], k: usize, y: ProofTreeNodeID) -> bool
     ensures { λ r. ⌜ ((l : List ℕ) → InRow k l (now (words .entry)) → r ≡ elem (y .0) l) ⌝ }
 {
     let at = y.0 as usize;
@@ -88,7 +88,7 @@ fn world_before(tree: &[u16; 4608], base: usize, x: ProofTreeNodeID) -> Possible
 }
 
 // The path runs through a leaf stored in row k.
-pub fn path_runs_through(
+fn path_runs_through(
     tree: &[u16; 4608],
     base: usize,
     leafs: &[u32; 8192],
@@ -113,7 +113,7 @@ pub fn path_runs_through(
 }
 
 // The path goes through node x.
-pub fn path_goes_through(
+fn path_goes_through(
     tree: &[u16; 4608],
     base: usize,
     x: ProofTreeNodeID,
