@@ -93,12 +93,15 @@ marking-start rs {t} {old} {len} {a} h =
     record { nodes = rw z h; each = rw z refl }
 
 module _ {rs : List Rec} {t : List Node} {old len : ℕ} {a : List ℕ} {every : Bool} {k : ℕ} (m : Marking rs t old len a every k) where
-  pub marking-next : {b now : Bool} {z : List ℕ} → Above rs t old → old ≤ k →
-      ((ms : List Node) → Held ms len a → Above rs ms old → old ≤ k → Held (mark ms (pairAt rs ms k)) len z × (b ≡ closedAt rs ms k)) → now ≡ (every && b) → Marking rs t old len z now (k + 1)
-  marking-next {b} {now} {z} o low f q =
+  -- what is done at node x
+  abbrev Marks : ℕ → Bool → List ℕ → Type 0
+  Marks x b z = (ms : List Node) → Held ms len a → Above rs ms old → old ≤ x → Held (mark ms (pairAt rs ms x)) len z × (b ≡ closedAt rs ms x)
+
+  pub marking-next : {x : ℕ} {b now : Bool} {z : List ℕ} → Above rs t old → old ≤ k → x ≡ k → Marks x b z → now ≡ (every && b) → Marking rs t old len z now (k + 1)
+  marking-next {x} {b} {now} {z} o low e f q =
       let ps = newPairs rs t old (k - old) in
       let v = markAll t ps in
-      let g = f v (m .nodes) (above-marked rs t old ps o) low in
+      let g = subst (λ (y : ℕ). Marks y b z) e f v (m .nodes) (above-marked rs t old ps o) low in
       let d : (k + 1) - old ≡ suc (k - old) = omega arith in
       let at : old + (k - old) ≡ k = omega arith in
       let ids : upFrom ((k + 1) - old) old ≡ upFrom (k - old) old ++ (k ∷ []) =

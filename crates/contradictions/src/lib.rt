@@ -8,6 +8,7 @@ use semantics::contradicts;
 use semantics::is_no_literal;
 use tree::ProofTreeNodeID;
 use tree::formula_of;
+use tree::id_at;
 use tree::is_leaf;
 use tree::mark_child_node_as_contradictory;
 use tree::parent_of;
@@ -231,7 +232,7 @@ fn mark_paths(
         if 512 <= k {
             return every;
         }
-        let x = ProofTreeNodeID(k as u16);
+        let x = id_at(k);
         let closed = mark_path(formulas, count, tree, len, old, x);
         every = and(every, closed);
         k += 1;

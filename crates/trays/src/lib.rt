@@ -10,6 +10,7 @@ use graph::contains;
 use tree::ProofTreeNodeID;
 use tree::contrarian_of;
 use tree::formula_of;
+use tree::id_at;
 use tree::is_contradictory;
 use tree::parent_of;
 use tree::place_of;
@@ -173,7 +174,7 @@ pub fn write_nodes(tray: &mut [u8], tree: &[u16; 4608], len: usize)
     let mut at: usize = 0;
     let mut i: usize = 0;
     while i < len {
-        at = append_node(tray, at, tree, ProofTreeNodeID(i as u16));
+        at = append_node(tray, at, tree, id_at(i));
         i += 1;
     }
     put_zeros(tray, at, 6144);

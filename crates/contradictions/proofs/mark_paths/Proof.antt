@@ -1,12 +1,14 @@
 use borrow.Author.Needs.{needs}
 use Prim.Native.Nat.{_≤_, _-_}
 use mathlib.Core.List.{List}
+use mathlib.Core.Path.{_∙_}
 use native.Mathlib.Omega.{arith}
 use Rattle.definition.specs.Records.{Rec}
 use Rattle.definition.specs.Tree.{Node}
 use Rattle.definition.proofs.Fresh.{Above}
 use Rattle.formula.specs.Recorded.{Recorded}
 use Rattle.tree.specs.Lay.{Held}
+use Rattle.tree.proofs.Sequence.{id-fits}
 use Rattle.contradictions.proofs.Marks.{Marking, marking-start, marking-next, marking-end}
 use Rattle.contradictions.proofs.mark_paths.Statement.{statement}
 use Rattle.contradictions.proofs.mark_paths.Tie as tie
@@ -24,31 +26,16 @@ loop-holds c = (omega arith, omega arith, λ rs ns p b a h o. marking-start rs a
 returns : tie.Need-returns Inv-loop μ-loop
 returns c = λ rs ns p b a h o. absurd (omega (arith, h, c .before .loop-test .taken, c .if1 .taken))
 
-cast-t11 : tie.Need-cast-t11 Inv-loop μ-loop
-cast-t11 c = search needs
-
-mark-path-requires : tie.Need-mark-path-requires Inv-loop μ-loop
-mark-path-requires c κs = search needs
-
-and-requires : tie.Need-and-requires Inv-loop μ-loop
-and-requires c κs = search needs
-
-add-k : tie.Need-add-k Inv-loop μ-loop
-add-k c = search needs
-
-loop-less : tie.Need-loop-less Inv-loop μ-loop
-loop-less c = search needs
-
 loop-again : tie.Need-loop-again Inv-loop μ-loop
 loop-again c = (
-  omega (arith, c .before .before .before .before .before .loop .inv .0),
-  omega (arith, c .before .before .before .before .before .loop .inv .0, c .before .before .before .before .loop-test .taken),
+  omega (arith, c .before .before .before .before .before .before .loop .inv .0),
+  omega (arith, c .before .before .before .before .before .before .loop .inv .0, c .before .before .before .before .before .loop-test .taken),
   λ rs ns p b a h o.
-      marking-next (c .before .before .before .before .before .loop .inv .2 rs ns p b a h o) o (c .before .before .before .before .before .loop .inv .0) (λ ms m z. c .before .mark-path .ensures rs ms p b m h z) (c .and .ensures),
+      marking-next (c .before .before .before .before .before .before .loop .inv .2 rs ns p b a h o) o (c .before .before .before .before .before .before .loop .inv .0) (c .before .before .before .id-at .ensures ∙ id-fits _ (c .before .before .before .before .if1 .left)) (λ ms m z. c .before .mark-path .ensures rs ms p b m h z) (c .and .ensures),
 )
 
 returns-2 : tie.Need-returns-2 Inv-loop μ-loop
 returns-2 c = λ rs ns p b a h o. marking-end (c .before .loop .inv .2 rs ns p b a h o) (omega (arith, c .before .loop .inv .0, c .before .loop .inv .1, c .loop-test .left))
 
 pub mark-paths-spec : {M : Type 1} → statement M
-mark-paths-spec = tie.close (tie.spec Inv-loop μ-loop loop-holds returns cast-t11 mark-path-requires and-requires add-k loop-less loop-again returns-2)
+mark-paths-spec = tie.close (tie.spec Inv-loop μ-loop loop-holds returns (λ c κs. search needs) (λ c κs. search needs) (λ c κs. search needs) (λ c. search needs) (λ c. search needs) loop-again returns-2)

@@ -9,10 +9,9 @@ use Rattle.definition.specs.Tree.{Node}
 use Rattle.definition.specs.Trays.{nodeBytes}
 use Rattle.definition.proofs.Nodes.{blank}
 use Rattle.tree.specs.Lay.{lay}
-use Rattle.definition.proofs.Lists.{each-get}
 use Rattle.definition.proofs.TraysKept.{length-parts, node-length}
 use Rattle.trays.proofs.Writing.{not-kept}
-use Rattle.trays.proofs.Parts.{Parts, parts-start, parts-next, parts-end}
+use Rattle.trays.proofs.Parts.{Parts, parts-start, parts-next, parts-end, node-put}
 use Rattle.trays.proofs.write_nodes.Statement.{statement}
 use Rattle.trays.proofs.write_nodes.Tie as tie
 
@@ -32,7 +31,7 @@ loop-holds : tie.Need-loop-holds Inv-loop μ-loop
 loop-holds c = (search needs, λ ns e q h. parts-start nodeBytes 12 node-length ns _)
 
 loop-again : tie.Need-loop-again Inv-loop μ-loop
-loop-again c = (search needs, λ ns e q h. let i = c .before .before .before .before .before .loop .i in let low : i < length ns = omega (arith, c .before .before .before .before .loop-test .taken) in parts-next nodeBytes 12 node-length ns _ i (c .before .before .before .before .before .loop .inv .1 ns e q h) blank (omega arith) low (c .before .before .append-node .ensures ns (omega arith) q (each-get (λ (x : Node). x .world < 256) ns blank h i (λ g. absurd (omega arith)))))
+loop-again c = (search needs, λ ns e q h. let i = c .before .before .before .before .before .before .loop .i in let low : i < length ns = omega (arith, c .before .before .before .before .before .loop-test .taken) in parts-next nodeBytes 12 node-length ns _ i (c .before .before .before .before .before .before .loop .inv .1 ns e q h) blank (omega arith) low (node-put ns (c .before .before .before .id-at .ensures) (omega (arith, low, e, c .before .before .before .before .before .before .before .if2 .left)) h low (c .before .before .append-node .ensures ns (omega (arith, e, c .before .before .before .before .before .before .before .if2 .left)) q)))
 
 returns-3 : tie.Need-returns-3 Inv-loop μ-loop
 returns-3 c = (λ ns e l q h r. c .before .before .put-zeros .ensures .0 (c .before .before .before .before .before .before .before .before .before .args .tray .now) (concatMap nodeBytes ns) (parts-end nodeBytes 12 node-length ns _ (c .before .before .before .before .before .loop .i) (c .before .before .before .before .before .loop .inv .1 ns e q h) (omega (arith, c .before .before .before .before .loop-test .left))) (omega (arith, length-parts 12 nodeBytes node-length ns)) r, not-kept (c .before .before .before .before .before .before .before .if1 .left) (c .before .before .before .before .before .before .if2 .left))
@@ -46,7 +45,7 @@ write-nodes-spec =
     returns
     returns-2
     loop-holds
-    (λ c. search needs)
+    (λ c κs. search needs)
     (λ c κs. search needs)
     (λ c. search needs)
     (λ c. search needs)
