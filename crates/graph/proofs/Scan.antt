@@ -90,6 +90,9 @@ module _ (u v : ℕ) {n a b : ℕ} (room : n ≤ 25) (hu : u < n) (hv : v < n) (
   pub row-pair : (a ≡ u) × (b ≡ v)
   row-pair = let p = at (omega arith) in (omega (arith, p .0), omega (arith, p .1))
 
+  pub at-row : (p : ℕ → Bool) {r : Bool} → r ≡ p b → r ≡ p v
+  at-row p e = e ∙ ap p (row-pair .1)
+
 -- ---- a search through the numbers below n
 module _ (p : ℕ → Bool) where
   pub any-none : (n j : ℕ) → n ≤ j → any p (upFrom (n - j) j) ≡ false
@@ -104,7 +107,3 @@ module _ (p : ℕ → Bool) where
   pub any-false : (n i : ℕ) → ((v : ℕ) → i ≤ v → p v ≡ false) → any p (upFrom n i) ≡ false
   any-false zero i h = refl
   any-false (suc n) i h = rw (h i (omega arith)) (any-false n (suc i) (λ v k. h v (omega arith)))
-
--- ---- a test of the world that the lookup gives
-pub at-row : (p : ℕ → Bool) (u v : ℕ) {n a b : ℕ} {r : Bool} → n ≤ 25 → u < n → v < n → (u * 25 + v < 625 → (a ≡ (u * 25 + v) / 25) × (b ≡ (u * 25 + v) % 25)) → r ≡ p b → r ≡ p v
-at-row p u v room hu hv at e = e ∙ ap p (row-pair u v room hu hv at .1)

@@ -36,7 +36,7 @@ returns-5 : tie.Need-returns-5 Inv-loop μ-loop
 returns-5 c = λ g d.
     let from = c .before .before .before .before .before .before .before .before .before .before .before .before .before .before .before .args .vertex .from .0 in
     let to = c .before .before .before .before .before .before .before .before .before .before .before .before .before .before .before .args .vertex .to .0 in
-    let two = at-row (paired g from to) from (c .before .before .before .before .loop .v) (c .before .before .before .before .before .before .before .before .before .before .before .before .before .before .if1 .left) (c .before .before .before .before .before .before .before .before .before .before .if2 .left) (c .before .before .before .loop-test .taken) (c .before .before .vertex-at .ensures .0) (c .before .is-paired .ensures g _ d) in
+    let two = at-row from (c .before .before .before .before .loop .v) (c .before .before .before .before .before .before .before .before .before .before .before .before .before .before .if1 .left) (c .before .before .before .before .before .before .before .before .before .before .if2 .left) (c .before .before .before .loop-test .taken) (c .before .before .vertex-at .ensures .0) (paired g from to) (c .before .is-paired .ensures g _ d) in
     sym (any-hit _ _ _ (c .before .before .before .loop-test .taken) (sym two ∙ c .if5 .taken)) ∙ c .before .before .before .before .loop .inv .1 g d
 
 loop-again : tie.Need-loop-again Inv-loop μ-loop
@@ -45,7 +45,7 @@ loop-again c = (
   λ g d.
       let from = c .before .before .before .before .before .before .before .before .before .before .before .before .before .before .before .args .vertex .from .0 in
       let to = c .before .before .before .before .before .before .before .before .before .before .before .before .before .before .before .args .vertex .to .0 in
-      let two = at-row (paired g from to) from (c .before .before .before .before .loop .v) (c .before .before .before .before .before .before .before .before .before .before .before .before .before .before .if1 .left) (c .before .before .before .before .before .before .before .before .before .before .if2 .left) (c .before .before .before .loop-test .taken) (c .before .before .vertex-at .ensures .0) (c .before .is-paired .ensures g _ d) in
+      let two = at-row from (c .before .before .before .before .loop .v) (c .before .before .before .before .before .before .before .before .before .before .before .before .before .before .if1 .left) (c .before .before .before .before .before .before .before .before .before .before .if2 .left) (c .before .before .before .loop-test .taken) (c .before .before .vertex-at .ensures .0) (paired g from to) (c .before .is-paired .ensures g _ d) in
       sym (any-miss _ _ _ (c .before .before .before .loop-test .taken) (sym two ∙ c .if5 .left)) ∙ c .before .before .before .before .loop .inv .1 g d,
 )
 
