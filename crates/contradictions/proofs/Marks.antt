@@ -1,9 +1,9 @@
 -- The marks of the new leaves, one after the other, and what they tell.
 use Prim.Native.Nat.{ℕ, zero, suc, _+_, _-_, _<_, _≤_}
 use mathlib.Core.Path.{_≡_, refl, sym, ap, _∙_, subst}
-use mathlib.Core.Bool.{Bool, true, false, cond, not, _&&_, _||_, and-true, and-assoc}
+use mathlib.Core.Bool.{Bool, true, false, _&&_, and-true, and-assoc}
 use mathlib.Core.List.{List, [], _∷_, _++_, map}
-use mathlib.Core.Option.{Option, none}
+use mathlib.Core.Option.{Option}
 use mathlib.Core.Logic.{_≢_}
 use native.Mathlib.Omega.{arith}
 use lib.Dec.{eqb}
@@ -15,7 +15,6 @@ use Rattle.definition.specs.Records.{Rec, nobody}
 use Rattle.definition.specs.Tree.{Node, Place, Root, Left, Middle, Right, Unplaced, nodeAt, isLeaf, leaves}
 use Rattle.definition.specs.Subtree.{takes}
 use Rattle.definition.specs.Contradiction.{Pair, isPair, mark, markAll, pairs}
-use Rattle.definition.proofs.Lists.{true-false, either}
 use Rattle.definition.proofs.Nodes.{length-marks}
 use Rattle.definition.proofs.Treed.{spots, placed, In, Treed}
 use Rattle.definition.proofs.Growing.{marks-keep}
@@ -23,7 +22,6 @@ use Rattle.definition.proofs.Partners.{pairOf}
 use Rattle.definition.proofs.Fresh.{bareAt, pairAt, closedAt, newPairs, Above, Since, above-marked, pairAt-marked, closedAt-marked, open-new, since-marks, since-open}
 use Rattle.tree.specs.Lay.{lay, placeCode, Held}
 use Rattle.tree.proofs.Nodes.{held-ok, held-as, held-long}
-use Rattle.tree.proofs.Paths.{listed-as}
 
 -- ---- the path of one node
 code-placed : (p : Place) {v : ℕ} → v ≡ placeCode p → v ≢ 65535 → placed p ≡ true

@@ -2,7 +2,7 @@
 // Of a call whose arrays lay out nothing of the kind that its contract names: it ends and stays in bounds; its outcome is free.
 ghost use mathlib.Core.Path.{_≡_};
 ghost use mathlib.Core.List.{List, [], _∷_, _++_};
-ghost use Prim.Native.Nat.{ℕ, _≤_, _<_};
+ghost use Prim.Native.Nat.{_≤_, _<_};
 ghost use Rattle.definition.specs.Records.{nobody, Rec, Non, Imply, Possible, Necessary, made, numberOf, kindOf, recAt, formulaOf};
 ghost use Rattle.definition.specs.Queue.{priorityOf};
 ghost use Rattle.formula.specs.Priority.{priorityBy};

@@ -1,6 +1,5 @@
 -- A fork's nodes placed, and what a possibility leaves.
 use Prim.Native.Nat.{ℕ, suc, min, _<_, _≤_, _+_}
-use mathlib.Core.Bool.{true, false}
 use mathlib.Core.Path.{_≡_, refl, sym, ap, _∙_, subst}
 use mathlib.Core.List.{List, [], _∷_, _++_, map, append-assoc}
 use mathlib.Core.Option.{some}

@@ -2,7 +2,7 @@
 use Prim.Native.Nat.{ℕ, _≤_}
 use mathlib.Core.Path.{_≡_, refl, sym, ap, _∙_, subst}
 use mathlib.Core.Bool.{Bool, true, false, cond, _||_}
-use mathlib.Core.List.{List, _++_}
+use mathlib.Core.List.{List}
 use mathlib.Core.Option.{Option}
 use lib.ListN.{length}
 use Rattle.arrays.specs.Listed.{Listed}
@@ -19,7 +19,7 @@ use Rattle.definition.proofs.Growing.{here-treed}
 use Rattle.tree.specs.Lay.{Held}
 use Rattle.subtree.specs.declared.ProofSubtree.{ProofSubtree}
 use Rattle.subtree.specs.declared.Counts.{Counts}
-use Rattle.subtree.specs.Subtree.{subtreeOf, Within, Chained, Left}
+use Rattle.subtree.specs.Subtree.{subtreeOf, Chained, Left}
 use Rattle.rules.specs.declared.AppliedHere.{AppliedHere}
 use Rattle.rules.specs.Here.{hereOf, Here}
 use Rattle.logic.specs.declared.Sizes.{Sizes}

@@ -21,7 +21,7 @@ ghost use mathlib.Core.List.{List};
 ghost use Prim.Native.Nat.{ℕ, suc, _<_, _≤_};
 ghost use Rattle.definition.specs.Records.{Rec};
 ghost use Rattle.definition.specs.Flags.{Flags};
-ghost use Rattle.definition.specs.Tree.{Node, leaves};
+ghost use Rattle.definition.specs.Tree.{leaves};
 ghost use Rattle.definition.specs.Run.{State, applyHere, applyRule, checkForContradictions, stops, run};
 ghost use Rattle.definition.proofs.Ready.{Fit};
 ghost use Rattle.definition.proofs.Fresh.{Since, Watch};

@@ -5,23 +5,18 @@ use mathlib.Core.List.{List, [], _∷_, _++_, map, reverse, append-assoc, append
 use native.Mathlib.Omega.{arith}
 use lib.ListN.{length, length-append, length-map, length-reverse}
 use Rattle.definition.specs.Tree.{Node, newNode, nodeAt}
-use Rattle.definition.specs.Records.{Rec}
 use Rattle.definition.specs.Subtree.{Subtree, withMiddle, withLeftRight, flat, turned, numbered}
-use Rattle.definition.specs.Run.{State, applyHere}
 use Rattle.tree.specs.Chain.{chainOf, emptyChain}
 use Rattle.tree.specs.Lay.{lay, Held, held, tooMany}
 use Rattle.tree.specs.Sequence.{idAt}
 use Rattle.tree.proofs.Sequence.{id-fits}
 use Rattle.tree.proofs.Nodes.{held-ok, held-fits, held-as}
 use Rattle.rules.specs.declared.AppliedHere.{AppliedHere}
-use Rattle.rules.specs.Here.{withNodes, subtreeOf, inMiddle, inLeftRight, Here}
+use Rattle.rules.specs.Here.{withNodes, inMiddle, inLeftRight, Here}
 
 -- what a function that makes the nodes xs does
 abbrev pub Adds : ℕ → List ℕ → List Node → ℕ → List ℕ → Type 0
 Adds n a xs m b = (ns : List Node) → Held ns n a → Held (ns ++ xs) m b
-
-pub adds-none : {n : ℕ} {a : List ℕ} → Adds n a [] n a
-adds-none ns h = rw append-nil h
 
 pub adds-both : {n m k : ℕ} {a b c : List ℕ} (xs ys : List Node) → Adds n a xs m b → Adds m b ys k c → Adds n a (xs ++ ys) k c
 adds-both {n} {m} {k} {a} {b} {c} xs ys f g ns h = subst (λ (l : List Node). Held l k c) (append-assoc ns xs ys) (g (ns ++ xs) (f ns h))
@@ -98,14 +93,3 @@ module _ {ns : List Node} {n : ℕ} {a : List ℕ} (x w : ℕ) (has : Held ns n 
         chains = λ h. rw (right h, left h, z, same) refl;
         below = λ h. ((omega (arith, t, left h), omega arith), omega (arith, t, right h, same));
       }
-
--- ---- `applyHere` by these names
-module _ (s : State) (x : ℕ) (more : List Rec) (fs : Subtree) where
-  pub here-nodes : s .nodes ++ applyHere s x more fs .nodes ≡ withNodes (s .nodes) x (nodeAt (s .nodes) x .world) fs
-  unfolding applyHere
-  here-nodes = refl
-
-  pub here-subtrees : {a : List ℕ} {r : AppliedHere} → Here (s .nodes) x (nodeAt (s .nodes) x .world) fs r a → length (withNodes (s .nodes) x (nodeAt (s .nodes) x .world) fs) ≤ 512
-      → applyHere s x more fs .subtrees ≡ record { target = x; subtree = subtreeOf r } ∷ []
-  unfolding applyHere
-  here-subtrees p h = rw (p .chains h) refl

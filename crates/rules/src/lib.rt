@@ -7,7 +7,7 @@ use tree::Issued;
 use tree::ProofTreeNodeID;
 ghost use mathlib.Core.Path.{_≡_};
 ghost use mathlib.Core.List.{List, [], _∷_, _++_};
-ghost use Prim.Native.Nat.{ℕ, _≤_};
+ghost use Prim.Native.Nat.{ℕ};
 ghost use lib.ListN.{length};
 ghost use Rattle.formula.specs.Recorded.{Recorded};
 ghost use Rattle.definition.specs.Records as kind;

@@ -7,7 +7,7 @@ use formula::right_at;
 ghost use mathlib.Core.Path.{_≡_};
 ghost use mathlib.Core.Bool.{_&&_};
 ghost use mathlib.Core.List.{List};
-ghost use Prim.Native.Nat.{ℕ, _≤_};
+ghost use Prim.Native.Nat.{_≤_};
 ghost use Rattle.definition.specs.Lists.{empty};
 ghost use Rattle.definition.specs.Records.{Rec, recAt, formulaOf};
 ghost use Rattle.definition.specs.Contradiction.{atomOf, atomsOf, said, denied, opposed, areFormulasContradictory};

@@ -9,7 +9,7 @@ use Rattle.definition.specs.Lists.{upFrom, Each}
 use Rattle.definition.specs.Tree.{Node, Place, Left, Middle, Right, newNode, linkChain}
 use Rattle.definition.specs.Subtree.{Subtree, flat, turned, numbered, copied, withMiddle, appendSubtreeOnLeaf, pushSubtree}
 use Rattle.definition.proofs.Nodes.{length-chain, length-leaf, node-append}
-use Rattle.tree.specs.Lay.{placeCode, Held, held, tooMany}
+use Rattle.tree.specs.Lay.{placeCode, Held}
 use Rattle.tree.specs.declared.Chain.{Chain}
 use Rattle.tree.specs.declared.IssuedChain.{IssuedChain}
 use Rattle.tree.specs.Chain.{chainOf, risingChain, emptyChain, Below, Spans, DrawnFrom}

@@ -1,6 +1,5 @@
 use mathlib.Core.Path.{refl}
 use Rattle.rules.proofs.Here.{here-none}
-use borrow.Author.Needs.{needs}
 use Rattle.rules.proofs.without_node.Statement.{statement}
 use Rattle.rules.proofs.without_node.Tie as tie
 
