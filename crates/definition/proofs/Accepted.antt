@@ -16,7 +16,7 @@ use Rattle.definition.specs.Checks.{Lengths, LongEnough, Check, expanded
 use Rattle.definition.proofs.Lists.{or-left, or-right, each-map, each-append, each-left, each-right, find-each}
 use Rattle.definition.proofs.Issued.{length-from}
 
-find-none : {A : Type 0} (p : A → Bool) (xs : List A) → find p xs ≡ none → Each (λ x. p x ≡ false) xs
+pub find-none : {A : Type 0} (p : A → Bool) (xs : List A) → find p xs ≡ none → Each (λ x. p x ≡ false) xs
 find-none p [] e = tt
 find-none p (x ∷ xs) e = go (p x) refl e (find-none p xs)
   where

@@ -1,5 +1,5 @@
 -- Each identifier waits or was taken by a step: steps and waiting nodes together are as many as identifiers.
-use mathlib.Core.Path.{_≡_, refl, sym, ap, _∙_, subst}
+use mathlib.Core.Path.{_≡_, refl, sym, ap, _∙_}
 use mathlib.Core.Bool.{Bool, true, false, cond}
 use mathlib.Core.List.{List, [], _∷_, _++_, map, reverse, append-assoc}
 use mathlib.Core.Option.{Option, none, some}
@@ -17,7 +17,7 @@ use Rattle.definition.specs.Subtree.{Subtree, Targeted, flat, turned, nu
 use Rattle.definition.specs.Queue.{classes, priorities, prioritiesOfNon, priorityOf, getNodePriority, Popped, popFirst, popClass, pop}
 use Rattle.definition.specs.Contradiction.{pairs}
 use Rattle.definition.specs.Run.{State, apply, checkedForContradictions, checkForContradictions, appended, stepBy, step, ended, rooted, branchNodes, begun, start}
-use Rattle.definition.proofs.Lists.{true-false, and-left, and-right, or-left, or-right, cond-both, each-map, each-append, each-reverse, below-each}
+use Rattle.definition.proofs.Lists.{true-false, and-left, and-right, or-left, or-right, cond-both, each-map, each-append, each-reverse, below-each, each-left, each-right}
 use Rattle.definition.proofs.Nodes.{length-chain, length-leaf, length-marks, ext-subtree}
 use Rattle.definition.proofs.Issued.{ids-numbered, Issued, issued-le, flat-numbered, length-from, length-turned, each-turned, apply-issued}
 
@@ -106,36 +106,53 @@ known-result (r ∷ rs) t q lo hi i h k =
     (known-on (filter (takes t (r .target)) (leaves t)) t q (r .subtree) k
     (each-map (λ x (l : (lo ≤ x) × (x < i .0)). omega (arith, l .1, h, issued-le (i .0) hi rs (i .2))) (flat (r .subtree)) (i .1 .within)))
 
--- a popped node stood among the others
+-- p was taken out of q
+pub record Taken (q : List ℕ) (p : Popped) : Type 0 where
+  pub before : List ℕ
+  pub after : List ℕ
+  pub was : q ≡ before ++ (p .node ∷ after)
+  pub left : p .others ≡ before ++ after
+
+abbrev IfTaken : List ℕ → Option Popped → Type 0
+IfTaken q none = Unit {0}
+IfTaken q (some p) = Taken q p
+
+first-taken : (p : ℕ → Bool) (xs before : List ℕ) → IfTaken (before ++ xs) (popFirst p before xs)
+unfolding popFirst
+first-taken p [] before = tt
+first-taken p (x ∷ xs) before =
+    cond-both (IfTaken (before ++ (x ∷ xs))) (p x) (some (record { node = x; others = before ++ xs })) _ (record { before = before; after = xs; was = refl; left = refl })
+    (rw (append-assoc before (x ∷ []) xs) at (first-taken p xs (before ++ (x ∷ []))))
+
+class-taken : (rs : List Rec) (t : List Node) (q cs : List ℕ) → IfTaken q (popClass rs t q cs)
+unfolding popClass
+class-taken rs t q [] = tt
+class-taken rs t q (c ∷ cs) =
+    (elim (popFirst (λ x. eqb (getNodePriority rs t x) c) [] q) as (λ o. IfTaken q o → IfTaken q (orElse o (popClass rs t q cs))) [ none ↦ λ h. class-taken rs t q cs | some p ↦ λ h. h ]) (first-taken _ q [])
+
+pub pop-taken : (rs : List Rec) (t : List Node) (q : List ℕ) (p : Popped) → pop rs t q ≡ some p → Taken q p
+unfolding pop
+pop-taken rs t q p e = rw e at (class-taken rs t q classes)
+
+-- so what held of each that waited holds of it, and of the others
 module _ (P : ℕ → Type 0) where
+  pub taken-each : (q : List ℕ) (p : Popped) → Taken q p → Each P q → P (p .node) × Each P (p .others)
+  taken-each q p k h =
+      let e = rw (k .was) at h in
+      let r = each-right P (k .before) (p .node ∷ k .after) e in
+      (r .0, rw (k .left) (each-append P (k .before) (k .after) (each-left P (k .before) _ e) (r .1)))
+
   abbrev pub Out : List ℕ → Option Popped → Type 0
   Out q none = Unit {0}
   Out q (some p) = (suc (length (p .others)) ≡ length q) × (Each P q → P (p .node) × Each P (p .others))
 
-  out-first : (p : ℕ → Bool) (xs before : List ℕ) → Out (before ++ xs) (popFirst p before xs)
-  unfolding popFirst
-  out-first p [] before = tt
-  out-first p (x ∷ xs) before =
-      cond-both (Out (before ++ (x ∷ xs))) (p x) (some (record { node = x; others = before ++ xs })) (popFirst p (before ++ (x ∷ [])) xs)
-      (omega (arith, length-append before (x ∷ xs), length-append before xs), parted before)
-      (subst (λ (q : List ℕ). Out q (popFirst p (before ++ (x ∷ [])) xs)) (append-assoc before (x ∷ []) xs) (out-first p xs (before ++ (x ∷ []))))
-    where
-      parted : (b : List ℕ) → Each P (b ++ (x ∷ xs)) → P x × Each P (b ++ xs)
-      parted [] h = h
-      parted (y ∷ ys) h = let r = parted ys (h .1) in (r .0, (h .0, r .1))
-
-  out-else : (q : List ℕ) (a b : Option Popped) → Out q a → Out q b → Out q (orElse a b)
-  out-else q none b h k = k
-  out-else q (some p) b h k = h
-
-  out-class : (rs : List Rec) (t : List Node) (q cs : List ℕ) → Out q (popClass rs t q cs)
-  unfolding popClass
-  out-class rs t q [] = tt
-  out-class rs t q (c ∷ cs) = out-else q (popFirst (λ x. eqb (getNodePriority rs t x) c) [] q) (popClass rs t q cs) (out-first (λ x. eqb (getNodePriority rs t x) c) q []) (out-class rs t q cs)
-
   pub pop-out : (rs : List Rec) (t : List Node) (q : List ℕ) → Out q (pop rs t q)
   unfolding pop
-  pop-out rs t q = out-class rs t q classes
+  pop-out rs t q = go (pop rs t q) (class-taken rs t q classes)
+    where
+      go : (o : Option Popped) → IfTaken q o → Out q o
+      go none k = tt
+      go (some p) k = (omega (arith, ap length (k .was), ap length (k .left), length-append (k .before) (p .node ∷ k .after), length-append (k .before) (k .after)), taken-each q p k)
 
 -- every class is 0, 1 or 2: one computed test of each table
 low : (ns : List ℕ) → all (λ n. leb n 2) ns ≡ true → (i : ℕ) → getD ns i 0 ≤ 2

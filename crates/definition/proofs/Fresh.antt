@@ -1,24 +1,24 @@
 -- The check of a tree that was checked when it had fewer nodes: it marks by the new leaves alone, in the order of their identifiers.
 use mathlib.Core.Path.{_≡_, refl, sym, ap, ap₂, _∙_, subst, fun-ext}
 use mathlib.Core.Bool.{Bool, true, false, not, cond, _&&_, _||_}
-use mathlib.Core.List.{List, [], _∷_, map}
+use mathlib.Core.List.{List, _∷_, map, []}
 use mathlib.Core.Option.{Option, none, some}
 use mathlib.Core.Logic.{_⊎_, inl, inr, ⊎-elim, _≢_}
-use Prim.Native.Nat.{ℕ, zero, suc, _<_, _≤_, _+_, _-_}
+use Prim.Native.Nat.{ℕ, _<_, _≤_, _+_, _-_}
 use native.Mathlib.Omega.{arith}
 use lib.Dec.{leb, eqb}
 use borrow.Author.Tests.{leb-true, le-leb}
 use lib.ListN.{length}
 use lib.Seq.{ext-getD}
-use Rattle.definition.specs.Lists.{Each, all, any, filter, elem, upFrom, empty}
+use Rattle.definition.specs.Lists.{Each, all, filter, elem, upFrom, empty}
 use Rattle.definition.specs.Records.{nobody, Rec, marks}
 use Rattle.definition.specs.Flags.{Flags}
-use Rattle.definition.specs.Tree.{Node, Place, nodeAt, markedAgainst, change, isLeaf, leaves, path}
+use Rattle.definition.specs.Tree.{Node, nodeAt, markedAgainst, change, isLeaf, leaves, path}
 use Rattle.definition.specs.Contradiction.{Pair, isPair, mark, markAll, pairs}
 use Rattle.definition.specs.Subtree.{takes}
 use Rattle.definition.specs.Queue.{Popped, pop}
 use Rattle.definition.specs.Run.{State, checkedForContradictions, checkForContradictions, appended, stepBy, step, ended, stops, begun, start}
-use Rattle.definition.proofs.Lists.{true-false, either, alike, and-left, and-right, and-both, or-left, or-true, not-true-false, all-each, Some, some-each, some-pick, some-of-map, each-map, each-any, each-both, each-filter, each-of-map, upFrom-each}
+use Rattle.definition.proofs.Lists.{true-false, either, alike, and-left, and-right, and-both, or-left, or-true, not-true-false, all-each, Some, some-each, some-pick, some-of-map, each-map, each-any, each-both, each-filter, each-of-map, upFrom-each, among-filter, among-from, some-or, each-all}
 use Rattle.definition.proofs.Nodes.{blank, change-other, mark-keeps, length-marks}
 use Rattle.definition.proofs.Treed.{Spot, spot, spots, placed, childAt, In, Tree, Treed, Bare, in-range, in-out, root-in, leaves-bare}
 use Rattle.definition.proofs.Linking.{bare-room}
@@ -26,34 +26,13 @@ use Rattle.definition.proofs.Growing.{marks-keep}
 use Rattle.definition.proofs.Ready.{Fit, ready}
 use Rattle.definition.proofs.Partners.{partner, pairOf, climbing, path-below, path-root, marks-same, Stem, appended-grown, grown-in, appended-same}
 use Rattle.definition.proofs.Takers.{closed, leaf-by}
-use Rattle.definition.proofs.Marked.{leaf-listed, leaf-each, each-from, Done, Exact, done-all, pair-exact, leaves-exact, RightMarks, Checked, marks-leaves, all-closed, start-checked, step-checked, old-in, appended-hung, appended-right, marks-new, new-pair}
+use Rattle.definition.proofs.Marked.{leaf-listed, leaf-each, each-from, Done, Exact, done-all, pair-exact, RightMarks, Checked, marks-leaves, all-closed, start-checked, step-checked, old-in, appended-hung, appended-right, marks-new, new-pair}
 
 -- ---- lists
-some-or : {A : Type 0} (P : A → Type 0) → ((x : A) → P x ⊎ (P x → ⊥)) → (xs : List A) → Some P xs ⊎ Each (λ x. P x → ⊥) xs
-some-or P d [] = inr tt
-some-or P d (x ∷ xs) = ⊎-elim (λ p. inl (inl p)) (λ n. ⊎-elim (λ s. inl (inr s)) (λ e. inr (n, e)) (some-or P d xs)) (d x)
-
 some-from-map : {A B : Type 0} (P : B → Type 0) (f : A → B) (xs : List A) → Some P (map f xs) → Some (λ x. P (f x)) xs
 some-from-map P f [] h = absurd h
 some-from-map P f (x ∷ xs) (inl p) = inl p
 some-from-map P f (x ∷ xs) (inr h) = inr (some-from-map P f xs h)
-
-some-filter : (p : ℕ → Bool) (z : ℕ) (xs : List ℕ) → p z ≡ true → Some (λ w. w ≡ z) xs → Some (λ w. w ≡ z) (filter p xs)
-some-filter p z [] e h = absurd h
-some-filter p z (x ∷ xs) e (inl q) = rw (q, e) (inl refl)
-some-filter p z (x ∷ xs) e (inr h) = go (p x) (some-filter p z xs e h)
-  where
-    go : (b : Bool) → Some (λ w. w ≡ z) (filter p xs) → Some (λ w. w ≡ z) (cond b (x ∷ filter p xs) (filter p xs))
-    go true k = inr k
-    go false k = k
-
-some-upFrom : (n i z : ℕ) → i ≤ z → z < i + n → Some (λ w. w ≡ z) (upFrom n i)
-some-upFrom zero i z h k = absurd (omega arith)
-some-upFrom (suc n) i z h k = ⊎-elim inl (λ (ne : i ≢ z). inr (some-upFrom n (suc i) z (omega arith) (omega arith))) (alike i z)
-
-each-all : {A B : Type 0} (p : B → Bool) (f : A → B) (xs : List A) → Each (λ x. p (f x) ≡ true) xs → all p (map f xs) ≡ true
-each-all p f [] h = refl
-each-all p f (x ∷ xs) h = and-both (p (f x)) (all p (map f xs)) (h .0) (each-all p f xs (h .1))
 
 filter-all : (xs : List ℕ) → filter (leb 0) xs ≡ xs
 filter-all [] = refl
@@ -153,7 +132,7 @@ module _ (rs : List Rec) (t : List Node) (r : Treed t) where
         let low = leb-true old l (k .1 .1 .1) in
         let high = in-range t l (b .0) in
         some-of-map (Later x) (pairAt rs t) (upFrom n old)
-        (some-each {R = λ z. Later x (pairAt rs t z)} (λ z (q : z ≡ l) (u : Unit {0}). rw (q, e) (k .1 .0)) (upFrom n old) (some-upFrom n old l low (omega arith)) (each-any (λ z. Unit {0}) (λ z. tt) (upFrom n old)))
+        (some-each {R = λ z. Later x (pairAt rs t z)} (λ z (q : z ≡ l) (u : Unit {0}). rw (q, e) (k .1 .0)) (upFrom n old) (among-from n old l low (omega arith)) (each-any (λ z. Unit {0}) (λ z. tt) (upFrom n old)))
 
     new-listed : (x : ℕ) → Some (Later x) (newPairs rs t old n) → Some (Later x) (pairs rs t (filter (leb old) (leaves t)))
     unfolding pairs pairOf
@@ -167,7 +146,7 @@ module _ (rs : List Rec) (t : List Node) (r : Treed t) where
         go z true e l h =
             let ls = filter (leb old) (leaves t) in
             some-of-map (Later x) (pairOf rs t) ls
-            (some-each {R = λ w. Later x (pairOf rs t w)} (λ w (q : w ≡ z) (u : Unit {0}). rw q l) ls (some-filter (leb old) z (leaves t) (le-leb old z h) (leaf-listed t r z (bare-at t z e)))
+            (some-each {R = λ w. Later x (pairOf rs t w)} (λ w (q : w ≡ z) (u : Unit {0}). rw q l) ls (among-filter (leb old) z (leaves t) (le-leb old z h) (leaf-listed t r z (bare-at t z e)))
             (each-any (λ w. Unit {0}) (λ w. tt) ls))
 
     -- the pairs of the new leaves, by identifier, mark what those of the listed ones do
@@ -352,6 +331,6 @@ module _ (F : Flags) (k : ℕ) (s : State) (p : Popped) (h : Fit F k s) (e : sto
           let r′ = appended-hung F k s p h e few .0 in
           not-true-false (all isPair (map (pairOf rs u) (leaves u))) (λ q.
           let each = leaf-each u r′ (λ l. isPair (pairOf rs u l) ≡ true) (each-from (λ o. isPair o ≡ true) (pairOf rs u) (leaves u) (all-each isPair (map (pairOf rs u) (leaves u)) q)) in
-          true-false (sym (each-all isPair (pairOf (s .formulas) t) (leaves t)
-          (each-map {Q = λ l. isPair (pairOf (s .formulas) t l) ≡ true} (λ l (b : Bare (spots t) l). ap isPair (sym (appended-same F k s h e l (b .0) p .same-pair)) ∙ each l (bare-after short l b)) (leaves t) (leaves-bare t r)))
+          true-false (sym (each-all isPair (map (pairOf (s .formulas) t) (leaves t)) (each-of-map (λ o. isPair o ≡ true) (pairOf (s .formulas) t) (leaves t)
+          (each-map {Q = λ l. isPair (pairOf (s .formulas) t l) ≡ true} (λ l (b : Bare (spots t) l). ap isPair (sym (appended-same F k s h e l (b .0) p .same-pair)) ∙ each l (bare-after short l b)) (leaves t) (leaves-bare t r))))
           ∙ sym (w .told) ∙ unproved s e))

@@ -44,7 +44,7 @@ new-spots [] h z = refl
 new-spots (n ∷ ns) h zero = h .0
 new-spots (n ∷ ns) h (suc z) = new-spots ns (h .1) z
 
-append-spots : (t ns : List Node) → Each New ns → spots (t ++ ns) ≡ spots t
+pub append-spots : (t ns : List Node) → Each New ns → spots (t ++ ns) ≡ spots t
 append-spots t ns h = fun-ext (go t)
   where
     go : (u : List Node) (z : ℕ) → spots (u ++ ns) z ≡ spots u z
@@ -52,31 +52,31 @@ append-spots t ns h = fun-ext (go t)
     go (n ∷ u) zero = refl
     go (n ∷ u) (suc z) = go u z
 
-append-out : (t ns : List Node) → Each New ns → (z : ℕ) → length t ≤ z → Out (spots (t ++ ns)) z
+pub append-out : (t ns : List Node) → Each New ns → (z : ℕ) → length t ≤ z → Out (spots (t ++ ns)) z
 unfolding placed
 append-out t ns h z l = ap (λ (g : ℕ → Spot). placed (g z .place)) (append-spots t ns h) ∙ ap (λ (n : Node). placed (n .place)) (List·getD-eq-default t blank {n = z} l)
 
-map-new : {A : Type 0} (f : A → Node) → ((x : A) → New (f x)) → (xs : List A) → Each New (map f xs)
+pub map-new : {A : Type 0} (f : A → Node) → ((x : A) → New (f x)) → (xs : List A) → Each New (map f xs)
 map-new f k xs = each-of-map New f xs (each-any (λ x. New (f x)) k xs)
 
-bare-keeps : (t u : List Node) (l : ℕ) → nodeAt u l ≡ nodeAt t l → Bare (spots t) l → Bare (spots u) l
+pub bare-keeps : (t u : List Node) (l : ℕ) → nodeAt u l ≡ nodeAt t l → Bare (spots t) l → Bare (spots u) l
 bare-keeps t u l e b = rw e b
 
 -- t with a copy of s on the leaf y
-abbrev withCopy : List Node → ℕ → Subtree → List Node
+abbrev pub withCopy : List Node → ℕ → Subtree → List Node
 withCopy t y s = appendSubtreeOnLeaf (t ++ map (copied t) (flat s)) y (numbered (length t) s)
 
-copy-length : (t : List Node) (y : ℕ) (s : Subtree) → length (withCopy t y s) ≡ length t + length (flat s)
+pub copy-length : (t : List Node) (y : ℕ) (s : Subtree) → length (withCopy t y s) ≡ length t + length (flat s)
 copy-length t y s = let ns = map (copied t) (flat s) in omega (arith, length-leaf (t ++ ns) y (numbered (length t) s), length-append t ns, length-map (flat s) (copied t))
 
-copy-other : (t : List Node) (y : ℕ) (s : Subtree) (z : ℕ) → z < length t → z ≢ y → nodeAt (withCopy t y s) z ≡ nodeAt t z
+pub copy-other : (t : List Node) (y : ℕ) (s : Subtree) (z : ℕ) → z < length t → z ≢ y → nodeAt (withCopy t y s) z ≡ nodeAt t z
 copy-other t y s z h a =
     let c = numbered (length t) s in
     leaf-other (t ++ map (copied t) (flat s)) y c z a
     (each-map {Q = λ x. z ≢ x} (λ x (w : (length t ≤ x) × (x < length t + length (flat s))) (q : z ≡ x). omega (arith, w .0, q)) (flat c) (ids-numbered (length t) s .within))
     ∙ node-append t (map (copied t) (flat s)) z h
 
-copy-treed : (t : List Node) (y : ℕ) (s : Subtree) → Treed t → Bare (spots t) y → length (withCopy t y s) ≤ nobody → Treed (withCopy t y s)
+pub copy-treed : (t : List Node) (y : ℕ) (s : Subtree) → Treed t → Bare (spots t) y → length (withCopy t y s) ≤ nobody → Treed (withCopy t y s)
 copy-treed t y s r b few =
     let c = numbered (length t) s in
     let ns = map (copied t) (flat s) in
@@ -222,7 +222,7 @@ steps-keep ends (suc n) F s =
     (keeps-trans (s .nodes) (step F s .nodes) _ (step-keeps F s) (steps-keep ends n F (step F s)))
 
 -- the root alone
-root-treed : (x : Node) → Treed (placedBelow nobody Root x ∷ [])
+pub root-treed : (x : Node) → Treed (placedBelow nobody Root x ∷ [])
 unfolding placed isLeaf
 root-treed x = record { depth = λ z. 0; root = refl; orphan = refl; top = refl; above = above; below = below; loose = loose; nobody-out = refl }
   where

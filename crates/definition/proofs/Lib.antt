@@ -33,3 +33,4 @@ pub mod Waiting
 pub mod Spawned
 pub mod Calls
 pub mod Computed
+pub mod Completeness

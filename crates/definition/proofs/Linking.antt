@@ -17,7 +17,7 @@ use Rattle.definition.proofs.Nodes.{change-other, change-same, change-k
 use Rattle.definition.proofs.Treed.{Spot, spot, spots, placed, childAt, In, Out, Child, Parent, Treed, Bare, in-range, in-out, root-in}
 
 -- a place where a child can be
-abbrev Slot : Place → Type 0
+abbrev pub Slot : Place → Type 0
 Slot p = (placed p ≡ true) × ((x : ℕ) (c : Children) → childAt p (setChild p x c) ≡ x)
 
 -- a child's place is set, and the others are left
@@ -41,7 +41,7 @@ at-set Right Middle x c = inl refl
 at-set Right Right x c = inr (refl, refl)
 at-set Right Unplaced x c = inl refl
 
-link-other : (t : List Node) (y : ℕ) (p : Place) (x z : ℕ) → z ≢ y → z ≢ x → nodeAt (link t y p x) z ≡ nodeAt t z
+pub link-other : (t : List Node) (y : ℕ) (p : Place) (x z : ℕ) → z ≢ y → z ≢ x → nodeAt (link t y p x) z ≡ nodeAt t z
 unfolding link
 link-other t y p x z a b = change-other (change t x (placedBelow y p)) y z (withChild p x) a ∙ change-other t x z (placedBelow y p) b
 
@@ -73,11 +73,11 @@ module _ (t : List Node) (r : Treed t) (y : ℕ) (p : Place) (x : ℕ) (slot : S
   differ : (z : ℕ) → In (spots t) z → z ≢ x
   differ z i = in-out (spots t) z x i (free .0)
 
-  link-new : nodeAt u x ≡ placedBelow y p (nodeAt t x)
+  pub link-new : nodeAt u x ≡ placedBelow y p (nodeAt t x)
   unfolding link
   link-new = change-other (change t x (placedBelow y p)) y x (withChild p x) (λ e. differ y (room .0) (sym e)) ∙ change-same t x (placedBelow y p) (free .1)
 
-  link-at : nodeAt u y ≡ withChild p x (nodeAt t y)
+  pub link-at : nodeAt u y ≡ withChild p x (nodeAt t y)
   unfolding link
   link-at =
       change-same (change t x (placedBelow y p)) y (withChild p x) (rw length-change (in-range t y (room .0))) ∙ ap (withChild p x) (change-other t x y (placedBelow y p) (differ y (room .0)))
@@ -89,13 +89,13 @@ module _ (t : List Node) (r : Treed t) (y : ℕ) (p : Place) (x : ℕ) (slot : S
   place-keeps : (z : ℕ) → z ≢ x → nodeAt u z .place ≡ nodeAt t z .place
   place-keeps = keeps (λ (n : Node). n .place) (λ n. refl)
 
-  parent-keeps : (z : ℕ) → z ≢ x → nodeAt u z .parent ≡ nodeAt t z .parent
+  pub parent-keeps : (z : ℕ) → z ≢ x → nodeAt u z .parent ≡ nodeAt t z .parent
   parent-keeps = keeps (λ (n : Node). n .parent) (λ n. refl)
 
-  in-keeps : (z : ℕ) → In (spots t) z → In (spots u) z
+  pub in-keeps : (z : ℕ) → In (spots t) z → In (spots u) z
   in-keeps z i = ap placed (place-keeps z (differ z i)) ∙ i
 
-  in-new : In (spots u) x
+  pub in-new : In (spots u) x
   in-new = ap (λ (n : Node). placed (n .place)) link-new ∙ slot .0
 
   kids-keep : (z : ℕ) (q : Place) → (childAt q (nodeAt u z .children) ≡ childAt q (nodeAt t z .children)) ⊎ ((z ≡ y) × (q ≡ p) × (childAt q (nodeAt u z .children) ≡ x))
@@ -144,7 +144,7 @@ module _ (t : List Node) (r : Treed t) (y : ℕ) (p : Place) (x : ℕ) (slot : S
       absurd (in-out (spots t) z nobody j (r .nobody-out) (sym (a .child) ∙ rw (d .0, d .1) (room .1)))) (kids-keep w q))
       (omega (arith, a .deeper, depth-old z e, depth-old w (differ w (a .there))))) (alike z x)
 
-  link-treed : Treed u
+  pub link-treed : Treed u
   link-treed =
       let root = differ 0 (root-in (spots t) r) in
       record {
@@ -164,19 +164,19 @@ module _ (t : List Node) (r : Treed t) (y : ℕ) (p : Place) (x : ℕ) (slot : S
   room-keeps : (z : ℕ) (q : Place) → (z ≡ y → q ≢ p) → Room t z q → Room u z q
   room-keeps z q e k = (in-keeps z (k .0), ⊎-elim (λ d. d ∙ k .1) (λ d. absurd (e (d .0) (d .1))) (kids-keep z q))
 
-  room-new : (q : Place) → Room u x q
+  pub room-new : (q : Place) → Room u x q
   unfolding isLeaf
   room-new q = (in-new, ap (λ (n : Node). childAt q (n .children)) link-new ∙ bare-room q childless refl)
 
-  free-keeps : (z : ℕ) → Free t z → z ≢ x → Free u z
+  pub free-keeps : (z : ℕ) → Free t z → z ≢ x → Free u z
   free-keeps z k e = (ap placed (place-keeps z e) ∙ k .0, omega (arith, k .1, length-link t y p x), k .2)
 
 -- there is room below y at each of ps, and the nodes cs can be placed
-abbrev Ready : List Node → ℕ → List Place → List ℕ → Type 0
+abbrev pub Ready : List Node → ℕ → List Place → List ℕ → Type 0
 Ready t y ps cs = Treed t × Each (Room t y) ps × Each (Free t) cs × Distinct cs
 
 -- a chain leaves the room that it does not take
-chain-ready : (cs ds : List ℕ) (t : List Node) (y : ℕ) (p : Place) (leaf : ℕ) (ps : List Place) → Slot p → Room t y p → Each (λ q. leaf ≡ y → q ≢ p) ps →
+pub chain-ready : (cs ds : List ℕ) (t : List Node) (y : ℕ) (p : Place) (leaf : ℕ) (ps : List Place) → Slot p → Room t y p → Each (λ q. leaf ≡ y → q ≢ p) ps →
     Ready t leaf ps (cs ++ ds) → Ready (linkChain t y p cs) leaf ps ds
 unfolding linkChain childAt setChild placed
 chain-ready [] ds t y p leaf ps slot room k r = r

@@ -3,11 +3,11 @@ use mathlib.Core.Path.{_≡_, refl, sym, ap, _∙_, subst}
 use mathlib.Core.Bool.{Bool, true, false, not, _&&_, _||_, cond}
 use mathlib.Core.List.{List, [], _∷_, _++_, map, reverse, reverseAux}
 use mathlib.Core.Option.{some}
-use mathlib.Core.Logic.{_⊎_, inl, inr, ⊎-elim, _≢_}
+use mathlib.Core.Logic.{_⊎_, inl, inr, ⊎-elim, ⊎-map, _≢_}
 use Prim.Native.Nat.{ℕ, zero, suc, _<_, _≤_, _+_}
 use native.Mathlib.Omega.{arith}
 use lib.Dec.{eqb}
-use borrow.Author.Tests.{eqb-true, eqb-false}
+use borrow.Author.Tests.{eqb-true, eqb-false, eq-eqb, ne-eqb}
 use lib.ListN.{length, getD}
 use Rattle.definition.specs.Lists.{any, all, find, filter, Each, upFrom, below, elem}
 
@@ -122,6 +122,12 @@ module _ {A : Type 0} where
   some-pick (x ∷ xs) (inl p) = (x, p)
   some-pick (x ∷ xs) (inr h) = some-pick xs h
 
+  -- what follows from P of each element follows from P of some
+  pub each-some : (P : A → Type 0) {R : Type 0} (xs : List A) → Each (λ x. P x → R) xs → Some P xs → R
+  each-some P [] f h = absurd h
+  each-some P (x ∷ xs) f (inl p) = f .0 p
+  each-some P (x ∷ xs) f (inr h) = each-some P xs (f .1) h
+
   pub any-some : (p : A → Bool) (xs : List A) → any p xs ≡ true → Some (λ x. p x ≡ true) xs
   any-some p [] e = true-false (sym e)
   any-some p (x ∷ xs) e = go (or-cases (p x) (any p xs) e) (any-some p xs)
@@ -133,6 +139,10 @@ module _ {A : Type 0} where
   pub all-each : (p : A → Bool) (xs : List A) → all p xs ≡ true → Each (λ x. p x ≡ true) xs
   all-each p [] e = tt
   all-each p (x ∷ xs) e = (and-left (p x) (all p xs) e, all-each p xs (and-right (p x) (all p xs) e))
+
+  pub each-all : (p : A → Bool) (xs : List A) → Each (λ x. p x ≡ true) xs → all p xs ≡ true
+  each-all p [] h = refl
+  each-all p (x ∷ xs) h = and-both (p x) (all p xs) (h .0) (each-all p xs (h .1))
 
   -- what is found keeps what held of each
   pub find-each : (P : A → Type 0) (p : A → Bool) (xs : List A) → Each P xs → (y : A) → find p xs ≡ some y → P y
@@ -152,6 +162,70 @@ module _ {A : Type 0} where
       go true e r = ((h .0, e), r)
       go false e r = r
 
+  pub some-map : {P Q : A → Type 0} → ((x : A) → P x → Q x) → (xs : List A) → Some P xs → Some Q xs
+  some-map f [] h = absurd h
+  some-map f (x ∷ xs) (inl p) = inl (f x p)
+  some-map f (x ∷ xs) (inr h) = inr (some-map f xs h)
+
+  pub some-cases : (P : A → Type 0) (xs ys : List A) → Some P (xs ++ ys) → Some P xs ⊎ Some P ys
+  some-cases P [] ys h = inr h
+  some-cases P (x ∷ xs) ys (inl h) = inl (inl h)
+  some-cases P (x ∷ xs) ys (inr h) = ⊎-map inr (λ k. k) (some-cases P xs ys h)
+
+  pub some-reverseAux : (P : A → Type 0) (xs ys : List A) → Some P xs ⊎ Some P ys → Some P (reverseAux xs ys)
+  some-reverseAux P [] ys (inl h) = absurd h
+  some-reverseAux P [] ys (inr h) = h
+  some-reverseAux P (x ∷ xs) ys (inl (inl h)) = some-reverseAux P xs (x ∷ ys) (inr (inl h))
+  some-reverseAux P (x ∷ xs) ys (inl (inr h)) = some-reverseAux P xs (x ∷ ys) (inl h)
+  some-reverseAux P (x ∷ xs) ys (inr h) = some-reverseAux P xs (x ∷ ys) (inr (inr h))
+
+  pub some-reverse : (P : A → Type 0) (xs : List A) → Some P xs → Some P (reverse xs)
+  some-reverse P xs h = some-reverseAux P xs [] (inl h)
+
+  -- x is one of xs
+  abbrev pub Among : A → List A → Type 0
+  Among x xs = Some (λ z. z ≡ x) xs
+
+  pub each-among : (P : A → Type 0) (x : A) (xs : List A) → Each P xs → Among x xs → P x
+  each-among P x [] h k = absurd k
+  each-among P x (y ∷ xs) h (inl e) = subst P e (h .0)
+  each-among P x (y ∷ xs) h (inr k) = each-among P x xs (h .1) k
+
+  pub each-by : (P : A → Type 0) (xs : List A) → ((x : A) → Among x xs → P x) → Each P xs
+  each-by P [] f = tt
+  each-by P (x ∷ xs) f = (f x (inl refl), each-by P xs (λ y k. f y (inr k)))
+
+  pub some-among : {P : A → Type 0} (xs : List A) → Some P xs → (x : A) × Among x xs × P x
+  some-among [] h = absurd h
+  some-among (x ∷ xs) (inl p) = (x, inl refl, p)
+  some-among (x ∷ xs) (inr h) = let k = some-among xs h in (k .0, inr (k .1), k .2)
+
+  pub among-some : (P : A → Type 0) (x : A) (xs : List A) → Among x xs → P x → Some P xs
+  among-some P x xs k p = some-map (λ z e. subst P (sym e) p) xs k
+
+  pub some-any : (p : A → Bool) (xs : List A) → Some (λ x. p x ≡ true) xs → any p xs ≡ true
+  some-any p [] h = absurd h
+  some-any p (x ∷ xs) (inl h) = rw h
+  some-any p (x ∷ xs) (inr h) = or-true (p x) (some-any p xs h)
+
+  pub any-none : (p : A → Bool) (xs : List A) → Each (λ x. p x ≡ false) xs → any p xs ≡ false
+  any-none p [] h = refl
+  any-none p (x ∷ xs) h = rw (h .0) (any-none p xs (h .1))
+
+  pub some-or : (P : A → Type 0) → ((x : A) → P x ⊎ (P x → ⊥)) → (xs : List A) → Some P xs ⊎ Each (λ x. P x → ⊥) xs
+  some-or P d [] = inr tt
+  some-or P d (x ∷ xs) = ⊎-elim (λ p. inl (inl p)) (λ n. ⊎-elim (λ s. inl (inr s)) (λ e. inr (n, e)) (some-or P d xs)) (d x)
+
+  -- one that passes is sifted
+  pub among-filter : (p : A → Bool) (z : A) (xs : List A) → p z ≡ true → Among z xs → Among z (filter p xs)
+  among-filter p z [] e h = absurd h
+  among-filter p z (x ∷ xs) e (inl q) = rw (q, e) (inl refl)
+  among-filter p z (x ∷ xs) e (inr h) = go (p x) (among-filter p z xs e h)
+    where
+      go : (b : Bool) → Among z (filter p xs) → Among z (cond b (x ∷ filter p xs) (filter p xs))
+      go true k = inr k
+      go false k = k
+
 module _ {A B : Type 0} where
   pub each-of-map : (P : B → Type 0) (f : A → B) (xs : List A) → Each (λ x. P (f x)) xs → Each P (map f xs)
   each-of-map P f [] h = tt
@@ -161,6 +235,22 @@ module _ {A B : Type 0} where
   some-of-map P f [] h = absurd h
   some-of-map P f (x ∷ xs) (inl p) = inl p
   some-of-map P f (x ∷ xs) (inr h) = inr (some-of-map P f xs h)
+
+-- two lists of one length, related element by element
+pub data Zip {A B : Type 0} (R : A → B → Type 0) : List A → List B → Type 0 where
+  zip-nil : Zip R [] []
+  zip-cons : {x : A} {y : B} {xs : List A} {ys : List B} → R x y → Zip R xs ys → Zip R (x ∷ xs) (y ∷ ys)
+
+module _ {A B : Type 0} (R : A → B → Type 0) where
+  pub zip-right : (xs : List A) (ys : List B) → Zip R xs ys → (y : B) → Among y ys → Some (λ x. R x y) xs
+  zip-right [] [] zip-nil y i = absurd i
+  zip-right (x ∷ xs) (z ∷ ys) (zip-cons h k) y (inl e) = inl (subst (R x) e h)
+  zip-right (x ∷ xs) (z ∷ ys) (zip-cons h k) y (inr i) = inr (zip-right xs ys k y i)
+
+  pub zip-left : (xs : List A) (ys : List B) → Zip R xs ys → (x : A) → Among x xs → Some (R x) ys
+  zip-left [] [] zip-nil x i = absurd i
+  zip-left (z ∷ xs) (y ∷ ys) (zip-cons h k) x (inl e) = inl (subst (λ w. R w y) e h)
+  zip-left (z ∷ xs) (y ∷ ys) (zip-cons h k) x (inr i) = inr (zip-left xs ys k x i)
 
 -- what holds of each holds of one that is elem them
 pub elem-each : (P : ℕ → Type 0) (x : ℕ) (xs : List ℕ) → elem x xs ≡ true → Each P xs → P x
@@ -261,3 +351,31 @@ pub from-get : (n s k : ℕ) → k < n → getD (upFrom n s) k 0 ≡ s + k
 from-get zero s k h = absurd (omega arith)
 from-get (suc n) s zero h = omega arith
 from-get (suc n) s (suc k) h = from-get n (suc s) k (omega arith) ∙ omega arith
+
+-- a number that is found among others, and the other way round
+pub elem-among : (x : ℕ) (xs : List ℕ) → elem x xs ≡ true → Among x xs
+elem-among x xs e = some-map (λ z (h : eqb x z ≡ true). sym (eqb-true x z h)) xs (any-some (eqb x) xs e)
+
+pub among-elem : (x : ℕ) (xs : List ℕ) → Among x xs → elem x xs ≡ true
+among-elem x xs h = some-any (eqb x) xs (some-map (λ z (e : z ≡ x). eq-eqb x z (sym e)) xs h)
+
+pub among-from : (n i z : ℕ) → i ≤ z → z < i + n → Among z (upFrom n i)
+among-from zero i z h k = absurd (omega arith)
+among-from (suc n) i z h k = ⊎-elim inl (λ (ne : i ≢ z). inr (among-from n (suc i) z (omega arith) (omega arith))) (alike i z)
+
+-- the converses of any-below and all-below
+pub any-below-of : (p : ℕ → Bool) (n v : ℕ) → v < n → p v ≡ true → any p (below n) ≡ true
+any-below-of p n v l h = some-any p (below n) (among-some (λ z. p z ≡ true) v (below n) (among-from n 0 v (omega arith) (omega arith)) h)
+
+pub all-below-of : (p : ℕ → Bool) (n : ℕ) → ((v : ℕ) → v < n → p v ≡ true) → all p (below n) ≡ true
+all-below-of p n h = each-all p (below n) (each-map h (below n) (below-each n))
+
+pub elem-high : (x : ℕ) (xs ys : List ℕ) → Each (λ z. z ≢ x) xs → elem x (xs ++ ys) ≡ elem x ys
+elem-high x [] ys h = refl
+elem-high x (z ∷ xs) ys h = rw (ne-eqb x z (λ e. h .0 (sym e)), elem-high x xs ys (h .1))
+
+-- two tests that tell the same
+pub same-both : (a b : Bool) → (a ≡ true → b ≡ true) → (b ≡ true → a ≡ true) → a ≡ b
+same-both true b f g = sym (f refl)
+same-both false true f g = g refl
+same-both false false f g = refl

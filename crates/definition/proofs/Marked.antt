@@ -1,10 +1,10 @@
 -- After a check, a path has a contradictory node just where it has a pair, and marks anew change nothing: only the new leaves need a search.
 use mathlib.Core.Path.{_≡_, refl, sym, ap, _∙_, subst, fun-ext}
 use mathlib.Core.Bool.{Bool, true, false, not}
-use mathlib.Core.List.{List, [], _∷_, _++_, map, reverse, append-nil}
+use mathlib.Core.List.{List, _∷_, _++_, map, reverse, append-nil, []}
 use mathlib.Core.Option.{Option, none, some, Option·map}
 use mathlib.Core.Logic.{_⊎_, inl, inr, ⊎-elim, _≢_}
-use Prim.Native.Nat.{ℕ, zero, suc, _<_, _≤_, _+_}
+use Prim.Native.Nat.{ℕ, zero, suc, _<_, _≤_}
 use native.Mathlib.Omega.{arith}
 use lib.Dec.{ltb, leb}
 use borrow.Author.Tests.{ne-eqb, ltb-true, ltb-false, leb-false}
@@ -13,11 +13,11 @@ use lib.Seq.{set-getD}
 use Rattle.definition.specs.Lists.{Each, any, all, orElse, filter, empty}
 use Rattle.definition.specs.Records.{nobody, isNobody, Rec, marks}
 use Rattle.definition.specs.Flags.{Flags}
-use Rattle.definition.specs.Tree.{Node, Place, Root, Left, Middle, Right, Unplaced, Children, nodeAt, markedAgainst, change, isLeaf, isContradictory, only, leavesBelow, leaves, path}
+use Rattle.definition.specs.Tree.{Node, Place, Root, Left, Middle, Right, Unplaced, Children, nodeAt, markedAgainst, isLeaf, isContradictory, only, leavesBelow, leaves, path}
 use Rattle.definition.specs.Contradiction.{areNodesContradictory, Pair, pair, isPair, mark, markAll, pairs}
 use Rattle.definition.specs.Queue.{Popped, pop}
 use Rattle.definition.specs.Run.{State, apply, checkedForContradictions, checkForContradictions, appended, stepBy, step, stops, begun, start}
-use Rattle.definition.proofs.Lists.{true-false, either, alike, or-true, Some, some-append-left, some-append-right, some-each, some-pick, each-map, each-both, each-of-map, each-reverse, find-each}
+use Rattle.definition.proofs.Lists.{true-false, either, alike, Some, some-append-left, some-append-right, some-each, some-pick, each-map, each-both, each-of-map, each-reverse, find-each, among-some, some-any, any-none}
 use Rattle.definition.proofs.Nodes.{blank, change-other, change-same, mark-keeps, length-marks}
 use Rattle.definition.proofs.Treed.{Spot, spot, spots, placed, childAt, In, Treed, Bare, in-range, in-out, root-in, leaves-bare, leaves-more, path-distinct}
 use Rattle.definition.proofs.Linking.{bare-room}
@@ -64,7 +64,7 @@ else-some : (x : ℕ) (o : Option ℕ) (rest : Option Pair) (p : Pair) → orEls
 else-some x none rest p e = inr e
 else-some x (some y) rest p e = let d : pair x y ≡ p = cc in inl (sym (ap (λ (q : Pair). q .later) d), ap (λ (q : Pair). some (q .earlier)) d)
 
-else-none : (x : ℕ) (o : Option ℕ) (rest : Option Pair) → orElse (Option·map (pair x) o) rest ≡ none → (o ≡ none) × (rest ≡ none)
+pub else-none : (x : ℕ) (o : Option ℕ) (rest : Option Pair) → orElse (Option·map (pair x) o) rest ≡ none → (o ≡ none) × (rest ≡ none)
 else-none x none rest e = (refl, e)
 else-none x (some y) rest e = let z : _≡_ {A = ℕ} 0 1 = cc in absurd (omega arith)
 
@@ -113,15 +113,6 @@ pub record Checked (rs : List Rec) (t : List Node) : Type 0 where
   pub right : RightMarks rs t
   pub whole : (l : ℕ) → Bare (spots t) l → Done t (pairOf rs t l)
 
-any-at : (p : ℕ → Bool) (x : ℕ) (xs : List ℕ) → Some (λ z. z ≡ x) xs → p x ≡ true → any p xs ≡ true
-any-at p x [] h e = absurd h
-any-at p x (y ∷ ys) (inl q) e = rw (q, e)
-any-at p x (y ∷ ys) (inr q) e = or-true (p y) (any-at p x ys q e)
-
-any-none : (p : ℕ → Bool) (xs : List ℕ) → Each (λ x. p x ≡ false) xs → any p xs ≡ false
-any-none p [] h = refl
-any-none p (x ∷ xs) h = rw (h .0) (any-none p xs (h .1))
-
 module _ (rs : List Rec) (t : List Node) (r : Treed t) (few : length t ≤ nobody) (c : Checked rs t) where
   -- a leaf's path has a contradictory node just if it has a pair
   pub closed-pair : (l : ℕ) → Bare (spots t) l → closed t l ≡ isPair (pairOf rs t l)
@@ -138,7 +129,7 @@ module _ (rs : List Rec) (t : List Node) (r : Treed t) (few : length t ≤ nobod
       go none e d = any-none marked (path t l) (each-both alone (path t l) (path-in rs t r l (b .0)) (no-partner rs t r l (b .0) e))
       go (some p) e d =
           let k = pair-partner rs t r l (b .0) p e in
-          any-at marked (p .later) (path t l) (k .on) (rw (d, ne-eqb (p .earlier) nobody (λ q. omega (arith, few, q, partner-known rs t r (p .later) (p .earlier) (k .there) (k .by)))))
+          some-any marked (path t l) (among-some (λ x. marked x ≡ true) (p .later) (path t l) (k .on) (rw (d, ne-eqb (p .earlier) nobody (λ q. omega (arith, few, q, partner-known rs t r (p .later) (p .earlier) (k .there) (k .by))))))
 
   -- so a leaf that takes a subtree has no pair
   pub open-none : (l : ℕ) → OpenLeaf t l → pairOf rs t l ≡ none

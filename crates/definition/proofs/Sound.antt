@@ -13,7 +13,7 @@ use Rattle.definition.specs.Limits.{mostIdentifiers}
 use Rattle.definition.specs.Lists.{Each, upFrom, empty}
 use Rattle.definition.specs.Records.{Rec, nobody, isNobody, decode, marks, marksFrom}
 use Rattle.definition.specs.Formula.{formAt}
-use Rattle.definition.specs.Flags.{Flags, flagsOf}
+use Rattle.definition.specs.Flags.{Flags, flagsOf, partialEquivalence}
 use Rattle.definition.specs.Models.{Model, Has, truth}
 use Rattle.definition.specs.Checks.{Check, refused}
 use Rattle.definition.specs.Graph.{emptyGraph}
@@ -150,6 +150,10 @@ begun-inv F M w inside rs wf some-marked holds small = go (branchNodes rs) refl 
           unproved = refl;
         }
 
+partial : (F : Flags) → F .symmetric ≡ true → F .transitive ≡ true → F .reflexive ≡ false → partialEquivalence F ≡ true
+unfolding partialEquivalence
+partial F s t r = rw (s, t, r) refl
+
 -- the run of a branch
 pub run-sound : (F : Flags) (rs : List Rec) → WellFormed rs → empty (marks rs) ≡ false → (test : State → Bool) (n : ℕ) →
     length (steps test n F (start F rs) .nodes) ≤ nobody → steps test n F (start F rs) .proved ≡ true → NoModel F rs
@@ -166,7 +170,7 @@ run-sound F rs wf some-marked test n small proved M has w inside reaching holds 
         go : (F .reflexive ≡ true) ⊎ (F .reflexive ≡ false) → M .reach w w ≡ true
         go (inl r) = has .reflexive r w inside
         go (inr r) =
-            let v = reaching s t r in
+            let v = reaching (partial F s t r) in
             has .transitive t w (v .0) w inside (v .1) inside (v .2) (has .symmetric s w (v .0) inside (v .1) (v .2))
 
 -- a run that is not full has at most mostIdentifiers

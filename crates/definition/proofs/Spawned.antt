@@ -1,13 +1,13 @@
 -- A stored necessity's paths are those through its spawner: its path leaves were all the leaves below it, and what grew since stands below them.
 use mathlib.Core.Path.{_≡_, refl, sym, ap, _∙_, subst, fun-ext}
 use mathlib.Core.Bool.{Bool, true, false, cond, _||_}
-use mathlib.Core.List.{List, [], _∷_, _++_, map}
+use mathlib.Core.List.{List, _∷_, _++_, map, []}
 use mathlib.Core.Option.{Option, none, some}
 use mathlib.Core.Logic.{_⊎_, inl, inr, ⊎-elim, _≢_}
 use Prim.Native.Nat.{ℕ, zero, suc, _<_, _≤_}
 use native.Mathlib.Omega.{arith}
 use lib.Dec.{ltb, eqb}
-use borrow.Author.Tests.{ltb-true, ltb-false, ne-eqb, eqb-true}
+use borrow.Author.Tests.{ltb-true, ltb-false, eqb-true}
 use lib.ListN.{length}
 use Rattle.definition.specs.Lists.{Each, any, elem, filter, empty}
 use Rattle.definition.specs.Records.{nobody, Rec}
@@ -19,7 +19,7 @@ use Rattle.definition.specs.Contradiction.{Pair, markAll, pairs}
 use Rattle.definition.specs.Modality.{Necessity, Fork, unvisited, runsThrough, leavesOf, isReapplied, visiting, necessitiesAfterPossibility}
 use Rattle.definition.specs.Queue.{Popped, pop}
 use Rattle.definition.specs.Run.{State, applyHere, applyPossibility, applyNecessity, applyRule, apply, checkedForContradictions, checkForContradictions, appended, stepBy, step, stops, begun, start}
-use Rattle.definition.proofs.Lists.{true-false, either, alike, or-cases, or-true, not-true-false, cond-both, Some, some-each, some-pick, any-some, elem-each, each-map, each-any, each-of-map, each-reverse, each-filter, filter-keeps, Full}
+use Rattle.definition.proofs.Lists.{true-false, either, alike, or-cases, or-true, not-true-false, cond-both, some-each, some-pick, any-some, elem-each, each-map, each-any, each-of-map, each-reverse, each-filter, filter-keeps, Full, some-any, among-filter, elem-high, same-both}
 use Rattle.definition.proofs.Nodes.{mark-keeps, length-marks}
 use Rattle.definition.proofs.Count.{checked-both, Out as Gone, pop-out}
 use Rattle.definition.proofs.Treed.{Spot, spot, spots, placed, childAt, alive, In, Out, Treed, Bare, in-out, leaves-bare, leaves-within}
@@ -34,25 +34,6 @@ use Rattle.definition.proofs.Marked.{leaf-listed, appended-hung}
 abbrev pub Spawned : List Node → Necessity → Type 0
 Spawned t n = (l : ℕ) → Bare (spots t) l → runsThrough n (path t l) ≡ elem (n .spawner) (path t l)
 
-same-both : (a b : Bool) → (a ≡ true → b ≡ true) → (b ≡ true → a ≡ true) → a ≡ b
-same-both true b f g = sym (f refl)
-same-both false true f g = g refl
-same-both false false f g = refl
-
-any-some-true : (p : ℕ → Bool) (xs : List ℕ) → Some (λ x. p x ≡ true) xs → any p xs ≡ true
-any-some-true p [] h = absurd h
-any-some-true p (x ∷ xs) (inl h) = rw h
-any-some-true p (x ∷ xs) (inr h) = or-true (p x) (any-some-true p xs h)
-
-filter-some : (p : ℕ → Bool) (z : ℕ) (xs : List ℕ) → p z ≡ true → Some (λ w. w ≡ z) xs → Some (λ w. w ≡ z) (filter p xs)
-filter-some p z [] e h = absurd h
-filter-some p z (x ∷ xs) e (inl q) = rw (q, e) (inl refl)
-filter-some p z (x ∷ xs) e (inr h) = go (p x) (filter-some p z xs e h)
-  where
-    go : (b : Bool) → Some (λ w. w ≡ z) (filter p xs) → Some (λ w. w ≡ z) (cond b (x ∷ filter p xs) (filter p xs))
-    go true k = inr k
-    go false k = k
-
 filter-like : (p q : ℕ → Bool) (xs : List ℕ) → Each (λ x. p x ≡ q x) xs → filter p xs ≡ filter q xs
 filter-like p q [] h = refl
 filter-like p q (x ∷ xs) h = rw (h .0, filter-like p q xs (h .1))
@@ -64,7 +45,7 @@ spawned-leaves t r n h = filter-like _ _ (leaves t) (each-map h (leaves t) (leav
 
 module _ (t : List Node) (r : Treed t) where
   -- a path's nodes above its end have a child
-  path-inner : (l : ℕ) → In (spots t) l → Each (λ z. (z ≡ l) ⊎ (isLeaf (nodeAt t z .children) ≡ false)) (path t l)
+  pub path-inner : (l : ℕ) → In (spots t) l → Each (λ z. (z ≡ l) ⊎ (isLeaf (nodeAt t z .children) ≡ false)) (path t l)
   path-inner =
       climbing t r (λ l. Each (λ z. (z ≡ l) ⊎ (isLeaf (nodeAt t z .children) ≡ false)) (path t l)) (rw (path-root t r) (inl refl, tt))
       (λ l i j up. rw (path-below t r l i) (
@@ -101,8 +82,8 @@ module _ (t : List Node) (r : Treed t) where
       from : through l ≡ true → any (λ y. elem y (path t l)) (filter through (leaves t)) ≡ true
       from h =
           let ls = filter through (leaves t) in
-          any-some-true (λ y. elem y (path t l)) ls
-          (some-each {R = λ y. elem y (path t l) ≡ true} (λ y (q : y ≡ l) (u : Unit {0}). rw q (elem-self t r l (b .0))) ls (filter-some through l (leaves t) h (leaf-listed t r l b)) (each-any (λ y. Unit {0}) (λ y. tt) ls))
+          some-any (λ y. elem y (path t l)) ls
+          (some-each {R = λ y. elem y (path t l) ≡ true} (λ y (q : y ≡ l) (u : Unit {0}). rw q (elem-self t r l (b .0))) ls (among-filter through l (leaves t) h (leaf-listed t r l b)) (each-any (λ y. Unit {0}) (λ y. tt) ls))
 
 -- ---- the paths of a stored necessity, and the fork
 module _ (t : List Node) (r : Treed t) (n : Necessity) (h : Spawned t n) where
@@ -197,8 +178,8 @@ module _ (t : List Node) (r : Treed t) where
 
         shown : (l : ℕ) → Bare (spots t) l → elem x (path t l) ≡ true → elem y (path t l) ≡ true → any (λ leaf. elem y (path t leaf)) ls ≡ true
         shown l b p q =
-            any-some-true (λ leaf. elem y (path t leaf)) ls
-            (some-each {R = λ z. elem y (path t z) ≡ true} (λ z (e : z ≡ l) (u : Unit {0}). rw e q) ls (filter-some (λ leaf. elem x (path t leaf)) l (leaves t) p (leaf-listed t r l b)) (each-any (λ z. Unit {0}) (λ z. tt) ls))
+            some-any (λ leaf. elem y (path t leaf)) ls
+            (some-each {R = λ z. elem y (path t z) ≡ true} (λ z (e : z ≡ l) (u : Unit {0}). rw e q) ls (among-filter (λ leaf. elem x (path t leaf)) l (leaves t) p (leaf-listed t r l b)) (each-any (λ z. Unit {0}) (λ z. tt) ls))
 
         from : (elem x (path t y) || elem y (path t x)) ≡ true → any (λ leaf. elem y (path t leaf)) ls ≡ true
         from e =
@@ -214,10 +195,6 @@ module _ (t : List Node) (r : Treed t) where
         let ls = filter (λ leaf. elem (n .spawner) (path t leaf)) (leaves t) in
         let s = some-pick ls (some-each {R = λ l. (elem (k .node) (path t l) ≡ true) × (Bare (spots t) l × (elem (n .spawner) (path t l) ≡ true))} (λ l a b. (a, b)) ls (any-some (λ leaf. elem (k .node) (path t leaf)) ls e) (each-filter (Bare (spots t)) (λ leaf. elem (n .spawner) (path t leaf)) (leaves t) (leaves-bare t r))) in
         in-out (spots t) (k .node) (k .node) (elem-each (In (spots t)) (k .node) (path t (s .0)) (s .1 .0) (path-there t r (s .0) (s .1 .1 .0 .0))) o refl))
-
-elem-high : (x : ℕ) (xs ys : List ℕ) → Each (λ z. z ≢ x) xs → elem x (xs ++ ys) ≡ elem x ys
-elem-high x [] ys h = refl
-elem-high x (z ∷ xs) ys h = rw (ne-eqb x z (λ e. h .0 (sym e)), elem-high x xs ys (h .1))
 
 any-like : (p q : ℕ → Bool) (xs : List ℕ) → Each (λ x. p x ≡ q x) xs → any p xs ≡ any q xs
 any-like p q [] h = refl

@@ -190,7 +190,7 @@ module _ (t₀ : List Node) where
         plain = λ z n. ap (λ (n : Node). n .contrarian) (List·getD-eq-default t₀ blank {n = z} n);
       }
 
-grown-append : (t ns : List Node) → Grown t (t ++ ns)
+pub grown-append : (t ns : List Node) → Grown t (t ++ ns)
 grown-append t ns = record { longer = ext-append t ns .longer; stems = λ z h. ap stem (node-append t ns z h) }
 
 -- every node that a step places stands below another, or below an open leaf

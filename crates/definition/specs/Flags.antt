@@ -1,5 +1,5 @@
 -- "The flag byte: 1 reflexive, 2 symmetric, 4 transitive, 8 skip contradiction checks."
-use mathlib.Core.Bool.{Bool}
+use mathlib.Core.Bool.{Bool, not, _&&_}
 use Prim.Native.Nat.{ℕ, _/_, _%_}
 use lib.Dec.{eqb}
 
@@ -13,3 +13,7 @@ unfoldable pub flagsOf : ℕ → Flags
 flagsOf n =
     let bit : ℕ → Bool = λ value. eqb (n / value % 2) 1 in
     record { reflexive = bit 1; symmetric = bit 2; transitive = bit 4; skip = bit 8 }
+
+-- "symmetric and transitive without reflexive": a world that reaches some world then reaches itself, but a world may reach none
+unfoldable pub partialEquivalence : Flags → Bool
+partialEquivalence F = F .symmetric && (F .transitive && not (F .reflexive))

@@ -18,3 +18,6 @@ pub mod Call
 pub mod Claim
 pub mod Cases
 pub mod Refusals
+pub mod Countermodel
+pub mod Completeness
+pub mod Propositional

@@ -18,6 +18,7 @@ use Rattle.definition.specs.Trays.{Trays}
 use Rattle.definition.specs.Checks.{Check, check, refused}
 use Rattle.definition.specs.Call.{Outcome, Refused, Full, Ended, Answer, refusal, outcomeOfRun, outcomeBy, outcome, answerOf, answer, traysAfter, traysLeft, lengthsOf}
 use Rattle.definition.specs.Claim.{Proved}
+use Rattle.definition.specs.Completeness.{Open, InTime}
 use Rattle.definition.proofs.Lists.{each-of, each-any}
 use Rattle.definition.proofs.Edges.{init-one, init-less}
 use Rattle.definition.proofs.Bounds.{bounded-formulas, bounded-steps}
@@ -27,6 +28,7 @@ use Rattle.definition.proofs.Fresh.{Watch, watch-start}
 use Rattle.definition.proofs.Spawned.{AllRooted, rooted-start}
 use Rattle.definition.proofs.Ready.{Fit, fit-start}
 use Rattle.definition.proofs.Sound.{demand-3}
+use Rattle.definition.proofs.Completeness.Whole.{complete, exact}
 use Rattle.graph.specs.declared.NormalModalLogic.{NormalModalLogic}
 use Rattle.graph.specs.Logic.{logicOf}
 use Rattle.proof.specs.declared.Progress.{Progress}
@@ -57,6 +59,8 @@ module _ (branch : List ℕ) (flags : ℕ) (lent : Trays) where
         fullExactly = (λ e. twelve .0 (sym a ∙ e), λ p. a ∙ twelve .1 p);
         fullZeroes = λ place e. t ∙ twelve-zeroes branch flags lent place (sym a ∙ e);
         provedIsSound = λ p. demand-3 branch flags lent (subst Proved a p);
+        openHasModel = λ c p. complete branch flags lent c (subst Open a p);
+        exactInTime = λ c f p. let e = exact branch flags lent c f (subst InTime a p) in (λ q. e .0 (subst Proved a q), λ q. subst Proved (sym a) (e .1 q));
       }
 
   -- refused by a check

@@ -1,16 +1,18 @@
 -- The contract of the call, clause by clause. `lent` are the trays at entry, `left` the trays at exit.
 use mathlib.Core.Path.{_≡_}
+use mathlib.Core.Bool.{false}
 use mathlib.Core.List.{List}
 use mathlib.Core.Option.{none}
 use mathlib.Core.Logic.{_↔_}
 use Prim.Native.Nat.{ℕ, _≤_}
 use Rattle.definition.specs.Records.{decode}
 use Rattle.definition.specs.Checks.{refused}
-use Rattle.definition.specs.Flags.{flagsOf}
+use Rattle.definition.specs.Flags.{flagsOf, partialEquivalence}
 use Rattle.definition.specs.Run.{Passes}
 use Rattle.definition.specs.Trays.{Trays, zeroTrays, laidOver}
 use Rattle.definition.specs.Call.{Answer, refusal, answer, traysLeft, lengthsOf}
 use Rattle.definition.specs.Claim.{Proved, NoModel}
+use Rattle.definition.specs.Completeness.{ChecksContradictions, Open, InTime, HasCountermodel}
 
 abbrev pub trays : List ℕ → List ℕ → List ℕ → Trays
 trays nodes formulas edges = record { nodes = nodes; formulas = formulas; edges = edges }
@@ -29,3 +31,8 @@ pub record Contract (branch : List ℕ) (flags : ℕ) (lent : Trays) (said : Ans
   -- demand 3: "if a verdict is returned in which `proved` is true, late beside it or not, then no world of any finite Kripke model
   -- with the flagged properties (..), however large, makes every formula of the branch true"
   pub provedIsSound : Proved said → NoModel (flagsOf flags) (decode branch)
+  -- beyond the demands: where contradiction checks were not skipped, an open verdict has a model, read off the first open path: it has the flagged
+  -- properties, and its world 0 makes every formula of the branch true
+  pub openHasModel : ChecksContradictions (flagsOf flags) → Open said → HasCountermodel (flagsOf flags) (decode branch)
+  -- so a verdict that is not late is exact, unless the flags are symmetric and transitive without reflexive
+  pub exactInTime : ChecksContradictions (flagsOf flags) → partialEquivalence (flagsOf flags) ≡ false → InTime said → (Proved said ↔ NoModel (flagsOf flags) (decode branch))

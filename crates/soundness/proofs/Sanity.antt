@@ -26,7 +26,7 @@ models-exist F value = (
   record { size = 1; reach = λ a b. true; value = value },
   record { reflexive = λ _ _ _. refl; symmetric = λ _ _ _ _ _ _. refl; transitive = λ _ _ _ _ _ _ _ _ _. refl },
   omega arith,
-  λ _ _ _. (0, omega arith, refl),
+  λ _. (0, omega arith, refl),
   refl,
 )
 

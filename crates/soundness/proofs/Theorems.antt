@@ -20,6 +20,7 @@ use Rattle.definition.specs.Graph.{initializeGraphIfNeeded}
 use Rattle.definition.specs.Run.{State, ended, full, stops, steps, unlimitedRun, start, final}
 use Rattle.definition.specs.Trays.{rowNumber, traysOf}
 use Rattle.definition.specs.Claim.{Demand3}
+use Rattle.definition.specs.Completeness.{Complete, ExactInTime}
 use Rattle.definition.proofs.Lists.{or-cases, each-map}
 use Rattle.definition.proofs.Nodes.{ext-result}
 use Rattle.definition.proofs.Priest.{rule-is-priest}
@@ -34,10 +35,24 @@ use Rattle.definition.proofs.Fields
 use Rattle.definition.proofs.TraysKept
 use Rattle.definition.proofs.Calls
 use Rattle.definition.proofs.Sound
-use Rattle.soundness.specs.Claims.{RulesArePriests, Stops, StaysStopped, FullExactly, NotFullExactly, TwelveExactly, TwelveZeroes, QueueCounts, StepsGrow, PartsGrow, childOf, IsTree, TreesOfRun, TreesOfStep, RecordFits, Fits, RunsFit, Beyond, TraysKeep, TraysSized, RefusalsWriteNothing}
+use Rattle.definition.proofs.Completeness.Whole
+use Rattle.definition.proofs.Completeness.Plain
+use Rattle.soundness.specs.Claims.{RulesArePriests, Stops, StaysStopped, FullExactly, NotFullExactly, TwelveExactly, TwelveZeroes, QueueCounts, StepsGrow, PartsGrow, childOf, IsTree, TreesOfRun, TreesOfStep, RecordFits, Fits, RunsFit, Beyond, TraysKeep, TraysSized, RefusalsWriteNothing, Decides, HasAssignment}
 
 pub demand-3 : Demand3
 demand-3 = Sound.demand-3
+
+pub complete : Complete
+complete = Whole.complete
+
+pub exact : ExactInTime
+exact = Whole.exact
+
+pub decides : Decides
+decides = Plain.decides
+
+pub has-assignment : HasAssignment
+has-assignment = Plain.has-assignment
 
 pub rules-are-priests : RulesArePriests
 rules-are-priests branch flags lent e n = rule-is-priest _ (Calls.run-linked branch flags lent (accepted branch flags lent e) n)

@@ -1,4 +1,5 @@
--- What is proved of the definition, beside demand 3 (Rattle.definition.specs.Claim). It imports definitions only; proofs/ proves each claim.
+-- What is proved of the definition, beside demand 3 (Rattle.definition.specs.Claim) and what an open verdict says (Rattle.definition.specs.Completeness).
+-- It imports definitions only; proofs/ proves each claim.
 use mathlib.Core.Path.{_≡_}
 use mathlib.Core.Bool.{Bool, true, false}
 use mathlib.Core.List.{List, _++_}
@@ -12,14 +13,16 @@ use Rattle.definition.specs.Records.{Rec, nobody, isNobody, decode, marks, numb
 use Rattle.definition.specs.Formula.{formAt}
 use Rattle.definition.specs.Flags.{Flags, flagsOf}
 use Rattle.definition.specs.Checks.{Lengths, LongEnough, Check, refused}
-use Rattle.definition.specs.Models.{Model, Has, truth}
+use Rattle.definition.specs.Models.{Model, Has}
 use Rattle.definition.specs.Tree.{Node, Place, Left, Middle, Right, Root, Unplaced, nodeAt, leavesBelow, upward, leaves, path}
 use Rattle.definition.specs.Rules.{expansion, writtenRule, priest}
 use Rattle.definition.specs.Subtree.{Targeted, appendLogicRuleResult}
 use Rattle.definition.specs.Run.{State, apply, step, full, run, unlimitedRun, start, Passes, final}
 use Rattle.definition.specs.Trays.{Trays, rowNumber, traysOf, zeroTrays, laidOver}
-use Rattle.definition.specs.Call.{Refused, Ended, outcome, refusal, answer, traysLeft, lengthsOf}
-use Rattle.definition.specs.Claim.{Proved, Reaching}
+use Rattle.definition.specs.Call.{Refused, Ended, outcome, Verdict, verdict, refusal, answer, traysLeft, lengthsOf}
+use Rattle.definition.specs.Claim.{Proved, Reaching, Satisfied}
+use Rattle.definition.specs.Completeness.{ChecksContradictions}
+use Rattle.definition.specs.Propositional.{PlainBranch, Satisfies}
 use Rattle.definition.specs.Cases.{bytes, deadEnd}
 
 -- "whose rules are Priest's tableau rules": at every state of an accepted run, the rule that a formula's record chooses, written out, is the row
@@ -163,4 +166,17 @@ abbrev pub DeadEnd : Type 0
 DeadEnd =
     let branch = bytes deadEnd in
     ((lent : Trays) → LongEnough (lengthsOf lent) → Proved (answer branch 6 lent)) ×
-    ((M : Model) × Has (flagsOf 6) M × (0 < M .size) × ((v : ℕ) → M .reach 0 v ≡ false) × Each (λ f. truth M (formAt (decode branch) f) 0 ≡ true) (marks (decode branch)))
+    ((M : Model) × Has (flagsOf 6) M × (0 < M .size) × ((v : ℕ) → M .reach 0 v ≡ false) × Satisfied (decode branch) M 0)
+
+-- a branch without a modal connective, whatever the frame properties and with no bound on its atoms: a verdict of a run that checks contradictions is proved
+-- exactly if no assignment makes every formula of the branch true
+abbrev pub Decides : Type 0
+Decides =
+    (branch : List ℕ) (flags : ℕ) (lent : Trays) (v : Verdict) → answer branch flags lent ≡ verdict v → ChecksContradictions (flagsOf flags) → PlainBranch (decode branch) →
+    ((v .proved ≡ true) ↔ ((a : ℕ → Bool) → Satisfies a (decode branch) → ⊥))
+
+-- and where it is not proved, there is one
+abbrev pub HasAssignment : Type 0
+HasAssignment =
+    (branch : List ℕ) (flags : ℕ) (lent : Trays) (v : Verdict) → answer branch flags lent ≡ verdict v → ChecksContradictions (flagsOf flags) → PlainBranch (decode branch) →
+    v .proved ≡ false → (a : ℕ → Bool) × Satisfies a (decode branch)

@@ -1,0 +1,44 @@
+-- What a verdict says beyond demand 3, where contradiction checks were not skipped: an open one has a model, and one that is not late is exact.
+-- Document 01 claims neither.
+use mathlib.Core.Path.{_≡_}
+use mathlib.Core.Bool.{false}
+use mathlib.Core.List.{List}
+use mathlib.Core.Logic.{_↔_}
+use Prim.Native.Nat.{ℕ}
+use Rattle.definition.specs.Records.{Rec, decode}
+use Rattle.definition.specs.Flags.{Flags, flagsOf, partialEquivalence}
+use Rattle.definition.specs.Run.{final}
+use Rattle.definition.specs.Trays.{Trays}
+use Rattle.definition.specs.Call.{Answer, refusal, verdict, answer}
+use Rattle.definition.specs.Claim.{Proved, NoModel}
+use Rattle.definition.specs.Countermodel.{Countermodel}
+
+-- a verdict that is not late
+abbrev pub InTime : Answer → Type 0
+InTime (refusal number place) = ⊥
+InTime (verdict v) = v .late ≡ false
+
+-- "Open means neither", proved nor late
+abbrev pub Open : Answer → Type 0
+Open (refusal number place) = ⊥
+Open (verdict v) = (v .proved ≡ false) × (v .late ≡ false)
+
+-- at the end of the run, the model read off the first open path is one of the branch
+abbrev pub HasCountermodel : Flags → List Rec → Type 0
+HasCountermodel F rs = (leaf : ℕ) × Countermodel F rs (final F rs) leaf
+
+-- "8 skip contradiction checks" is not set
+abbrev pub ChecksContradictions : Flags → Type 0
+ChecksContradictions F = F .skip ≡ false
+
+-- whatever the frame properties: an open verdict has a model
+abbrev pub Complete : Type 0
+Complete =
+    (branch : List ℕ) (flags : ℕ) (lent : Trays) → ChecksContradictions (flagsOf flags) → Open (answer branch flags lent) → HasCountermodel (flagsOf flags) (decode branch)
+
+-- unless the flags are symmetric and transitive without reflexive, where demand 3 speaks only of worlds that reach some world: a verdict that is not late
+-- is proved exactly if there is no model
+abbrev pub ExactInTime : Type 0
+ExactInTime =
+    (branch : List ℕ) (flags : ℕ) (lent : Trays) → ChecksContradictions (flagsOf flags) → partialEquivalence (flagsOf flags) ≡ false → InTime (answer branch flags lent) →
+    (Proved (answer branch flags lent) ↔ NoModel (flagsOf flags) (decode branch))
