@@ -18,7 +18,7 @@ use Rattle.definition.specs.Contradiction.{Pair, isPair, mark, markAll, 
 use Rattle.definition.specs.Subtree.{takes}
 use Rattle.definition.specs.Queue.{Popped, pop}
 use Rattle.definition.specs.Run.{State, checkedForContradictions, checkForContradictions, appended, stepBy, step, ended, stops, begun, start}
-use Rattle.definition.proofs.Lists.{true-false, either, alike, and-left, and-right, and-both, or-left, or-true, not-true-false, all-each, Some, some-each, some-pick, some-of-map, each-map, each-any, each-both, each-filter, each-of-map, upFrom-each, among-filter, among-from, some-or, each-all}
+use Rattle.definition.proofs.Lists.{true-false, either, alike, and-left, and-right, and-both, or-left, or-true, not-true-false, all-each, Some, some-each, some-pick, some-of-map, each-map, each-any, each-both, each-filter, each-of-map, upFrom-each, among-filter, among-from, some-or, each-all, some-from-map}
 use Rattle.definition.proofs.Nodes.{blank, change-other, mark-keeps, length-marks}
 use Rattle.definition.proofs.Treed.{Spot, spot, spots, placed, childAt, In, Tree, Treed, Bare, in-range, in-out, root-in, leaves-bare}
 use Rattle.definition.proofs.Linking.{bare-room}
@@ -29,11 +29,6 @@ use Rattle.definition.proofs.Takers.{closed, leaf-by}
 use Rattle.definition.proofs.Marked.{leaf-listed, leaf-each, each-from, Done, Exact, done-all, pair-exact, RightMarks, Checked, marks-leaves, all-closed, start-checked, step-checked, old-in, appended-hung, appended-right, marks-new, new-pair}
 
 -- ---- lists
-some-from-map : {A B : Type 0} (P : B → Type 0) (f : A → B) (xs : List A) → Some P (map f xs) → Some (λ x. P (f x)) xs
-some-from-map P f [] h = absurd h
-some-from-map P f (x ∷ xs) (inl p) = inl p
-some-from-map P f (x ∷ xs) (inr h) = inr (some-from-map P f xs h)
-
 filter-all : (xs : List ℕ) → filter (leb 0) xs ≡ xs
 filter-all [] = refl
 filter-all (x ∷ xs) = rw (le-leb 0 x (omega arith), filter-all xs)

@@ -236,6 +236,15 @@ module _ {A B : Type 0} where
   some-of-map P f (x ∷ xs) (inl p) = inl p
   some-of-map P f (x ∷ xs) (inr h) = inr (some-of-map P f xs h)
 
+  pub each-from-map : (P : B → Type 0) (f : A → B) (xs : List A) → Each P (map f xs) → Each (λ x. P (f x)) xs
+  each-from-map P f [] h = tt
+  each-from-map P f (x ∷ xs) h = (h .0, each-from-map P f xs (h .1))
+
+  pub some-from-map : (P : B → Type 0) (f : A → B) (xs : List A) → Some P (map f xs) → Some (λ x. P (f x)) xs
+  some-from-map P f [] h = absurd h
+  some-from-map P f (x ∷ xs) (inl p) = inl p
+  some-from-map P f (x ∷ xs) (inr h) = inr (some-from-map P f xs h)
+
 -- two lists of one length, related element by element
 pub data Zip {A B : Type 0} (R : A → B → Type 0) : List A → List B → Type 0 where
   zip-nil : Zip R [] []

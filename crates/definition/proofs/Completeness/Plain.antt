@@ -1,7 +1,7 @@
 -- A branch without a modal connective: its run makes no world, so that its verdict is in time, and an open path gives an assignment.
 use mathlib.Core.Path.{_≡_, refl, sym, ap, ap₂, _∙_, subst}
 use mathlib.Core.Bool.{Bool, true, false, not, _&&_, _||_, Bool·beq}
-use mathlib.Core.List.{List, [], _∷_, _++_, map}
+use mathlib.Core.List.{List, [], _++_}
 use mathlib.Core.Logic.{_↔_, inl, inr}
 use Prim.Native.Nat.{ℕ, suc, _<_, _≤_, _+_}
 use native.Mathlib.Omega.{arith}
@@ -27,7 +27,7 @@ use Rattle.definition.specs.Claim.{Proved}
 use Rattle.definition.specs.Countermodel.{readOff}
 use Rattle.definition.specs.Completeness.{ChecksContradictions}
 use Rattle.definition.specs.Propositional.{Plain, PlainBranch, assigned, Satisfies}
-use Rattle.definition.proofs.Lists.{either, each-both, each-append, each-of-map}
+use Rattle.definition.proofs.Lists.{either, each-both, each-append, each-of-map, each-from-map}
 use Rattle.definition.proofs.Nodes.{Label, label, mark-keeps, length-marks}
 use Rattle.definition.proofs.Issued.{each-turned, apply-issued}
 use Rattle.definition.proofs.Count.{checked-both, pop-taken, taken-each}
@@ -75,16 +75,12 @@ plain-priest (strictImply p q) h = h
 plain-priest (possible p) h = h
 plain-priest (necessary p) h = h
 
-each-unmap : {A B : Type 0} (P : B → Type 0) (f : A → B) (xs : List A) → Each P (map f xs) → Each (λ x. P (f x)) xs
-each-unmap P f [] h = tt
-each-unmap P f (x ∷ xs) h = (h .0, each-unmap P f xs (h .1))
-
 -- a rule whose formulas are plain acts here
 plain-here : (form : ℕ → Form) (c : Rule ℕ) → Plains (writtenRule form c) → Here c × Each (λ g. Plain (form g)) (flat (chains c))
 unfolding writtenRule flat
 plain-here form nothing h = (tt, tt)
-plain-here form (down fs) h = (tt, each-append (λ g. Plain (form g)) fs [] (each-unmap Plain form fs h) tt)
-plain-here form (split fs gs) h = (tt, each-append (λ g. Plain (form g)) fs gs (each-unmap Plain form fs (h .0)) (each-unmap Plain form gs (h .1)))
+plain-here form (down fs) h = (tt, each-append (λ g. Plain (form g)) fs [] (each-from-map Plain form fs h) tt)
+plain-here form (split fs gs) h = (tt, each-append (λ g. Plain (form g)) fs gs (each-from-map Plain form fs (h .0)) (each-from-map Plain form gs (h .1)))
 plain-here form (asPossible f) h = absurd h
 plain-here form (asNecessary f) h = absurd h
 
