@@ -8,7 +8,7 @@ use Prim.Native.Nat.{ℕ, zero, suc, _<_, _≤_, _+_}
 use native.Mathlib.Omega.{arith}
 use borrow.Author.Tests.{leb-false, ltb-false}
 use lib.ListN.{length, length-append}
-use Rattle.definition.specs.Limits.{mostIdentifiers, mostWorlds}
+use Rattle.definition.specs.Limits.{mostRecords, mostIdentifiers, worldLimit, mostFormulas}
 use Rattle.definition.specs.Lists.{Each, empty, filter, elem}
 use Rattle.definition.specs.Records.{Rec, nobody, numberOf, marks}
 use Rattle.definition.specs.Flags.{Flags}
@@ -62,7 +62,7 @@ module _ (P : Rec → Type 0) (ok : (r : Rec) → RecordFits r → P r) where
     pub formulas : length (s .formulas) ≤ k + (s .steps + s .steps)
     pub records : Each P (s .formulas)
     pub squared : Squared (s .graph)
-    pub worlds : s .graph .worlds ≤ mostWorlds
+    pub worlds : s .graph .worlds ≤ worldLimit
     pub labels : Every (LabelFits (initializeGraphIfNeeded F (s .graph) .worlds) (length (s .formulas)) (length (s .nodes))) (s .nodes)
     pub necessities : Each (NecessityFits (length (s .formulas)) (length (s .nodes))) (s .necessities)
 
@@ -75,12 +75,12 @@ module _ (P : Rec → Type 0) (ok : (r : Rec) → RecordFits r → P r) where
   -- what a rule's result has: more is the number of formulas with those made
   record ResultFits (F : Flags) (more n : ℕ) (g : Graph) (r : LogicRuleResult) : Type 0 where
     squared : Squared (r .graph)
-    worlds : r .graph .worlds ≤ mostWorlds
+    worlds : r .graph .worlds ≤ worldLimit
     wider : initializeGraphIfNeeded F g .worlds ≤ initializeGraphIfNeeded F (r .graph) .worlds
     labels : Each (λ (m : Node). LabelFits (initializeGraphIfNeeded F (r .graph) .worlds) more n (label m)) (r .nodes)
     necessities : Each (NecessityFits more n) (r .necessities)
 
-  module _ (F : Flags) (k : ℕ) (s : State) (h : Sizes F k s) (few : s .graph .worlds < mostWorlds) (x : ℕ) (hx : x < length (s .nodes)) (more : List Rec) where
+  module _ (F : Flags) (k : ℕ) (s : State) (h : Sizes F k s) (few : s .graph .worlds < worldLimit) (x : ℕ) (hx : x < length (s .nodes)) (more : List Rec) where
     abbrev t : List Node
     t = s .nodes
 
@@ -113,20 +113,20 @@ module _ (P : Rec → Type 0) (ok : (r : Rec) → RecordFits r → P r) where
         each-map (λ v (a : (v < g .worlds) × (edge g (n .world) v ≡ true)). record { world = omega (arith, a .0, init-worlds F g .1); formula = inr (q .0); spawner = inr (q .1) })
         (unvisited g n) (unvisited-each g n)
 
-    init-fits : b ≤ mostWorlds
+    init-fits : b ≤ worldLimit
     init-fits = go (init-less F (s .graph))
       where
-        go : (s .graph .worlds ≡ 0) ⊎ (b ≡ s .graph .worlds) → b ≤ mostWorlds
+        go : (s .graph .worlds ≡ 0) ⊎ (b ≡ s .graph .worlds) → b ≤ worldLimit
         go (inl e) = omega (arith, init-one F (s .graph) e)
         go (inr e) = omega (arith, e, few)
 
-    fork-fits : fork F (initializeGraphIfNeeded F (s .graph)) (nodeAt t x .world) .worlds ≤ mostWorlds
+    fork-fits : fork F (initializeGraphIfNeeded F (s .graph)) (nodeAt t x .world) .worlds ≤ worldLimit
     fork-fits = go (init-less F (s .graph))
       where
         e : fork F (initializeGraphIfNeeded F (s .graph)) (nodeAt t x .world) .worlds ≡ suc b
         e = fork-worlds F (initializeGraphIfNeeded F (s .graph)) (nodeAt t x .world)
 
-        go : (s .graph .worlds ≡ 0) ⊎ (b ≡ s .graph .worlds) → fork F (initializeGraphIfNeeded F (s .graph)) (nodeAt t x .world) .worlds ≤ mostWorlds
+        go : (s .graph .worlds ≡ 0) ⊎ (b ≡ s .graph .worlds) → fork F (initializeGraphIfNeeded F (s .graph)) (nodeAt t x .world) .worlds ≤ worldLimit
         go (inl d) = omega (arith, init-one F (s .graph) d, e)
         go (inr d) = omega (arith, d, few, e)
 
@@ -199,7 +199,7 @@ module _ (P : Rec → Type 0) (ok : (r : Rec) → RecordFits r → P r) where
   apply-made F s x = rule-made F s x _ _
 
   -- all but the counts, which the step as a whole has
-  sizes-appended : (F : Flags) (k : ℕ) (s : State) (p : Popped) → k ≤ 256 → Bounded F k s → s .graph .worlds < mostWorlds → full s ≡ false → p .node < length (s .nodes) →
+  sizes-appended : (F : Flags) (k : ℕ) (s : State) (p : Popped) → k ≤ mostRecords → Bounded F k s → s .graph .worlds < worldLimit → full s ≡ false → p .node < length (s .nodes) →
       Sizes F k (appended F s p)
   unfolding appended apply
   sizes-appended F k s p small h few e hx =
@@ -236,15 +236,15 @@ module _ (P : Rec → Type 0) (ok : (r : Rec) → RecordFits r → P r) where
         necessities = each-map (λ (a : Necessity) (q : NecessityFits m n a). (q .0, omega (arith, q .1, lt, lu))) (r .necessities) (fits .necessities);
       })
 
-  pub bounded-step : (F : Flags) (k : ℕ) (s : State) → k ≤ 256 → stops s ≡ false → Bounded F k s → Bounded F k (step F s)
+  pub bounded-step : (F : Flags) (k : ℕ) (s : State) → k ≤ mostRecords → stops s ≡ false → Bounded F k s → Bounded F k (step F s)
   unfolding stops ended step stepBy
   bounded-step F k s small e h = go (pop (s .formulas) (s .nodes) (s .waiting)) (pop-out (λ x. x < length (s .nodes)) (s .formulas) (s .nodes) (s .waiting)) (due F s busy (h .counted)) (known-step F s (h .known))
     where
       busy : ended s ≡ false
       busy = or-left (ended s) (full s) e
 
-      few : s .graph .worlds < mostWorlds
-      few = leb-false mostWorlds (s .graph .worlds) (or-right (empty (s .waiting)) _ (or-right (s .proved) _ busy))
+      few : s .graph .worlds < worldLimit
+      few = leb-false worldLimit (s .graph .worlds) (or-right (empty (s .waiting)) _ (or-right (s .proved) _ busy))
 
       go : (o : Option Popped) → Out (λ x. x < length (s .nodes)) (s .waiting) o → Counted (stepBy F s o) × (stepBy F s o .steps ≡ suc (s .steps)) → Known (stepBy F s o .nodes) (stepBy F s o .waiting) →
           Bounded F k (stepBy F s o)
@@ -252,7 +252,7 @@ module _ (P : Rec → Type 0) (ok : (r : Rec) → RecordFits r → P r) where
       go (some p) q c w =
           record { counted = c .0; known = w; sizes = sizes-checked F k (appended F s p) (sizes-appended F k s p small h few (or-right (ended s) (full s) e) (q .1 (h .known) .0)) }
 
-  bounded-run : (F : Flags) (k n : ℕ) (s : State) → k ≤ 256 → Bounded F k s → Bounded F k (run n F s)
+  bounded-run : (F : Flags) (k n : ℕ) (s : State) → k ≤ mostRecords → Bounded F k s → Bounded F k (run n F s)
   unfolding steps
   bounded-run F k zero s small h = h
   bounded-run F k (suc n) s small h = go (stops s) refl (bounded-run F k n (step F s) small)
@@ -279,14 +279,14 @@ module _ (P : Rec → Type 0) (ok : (r : Rec) → RecordFits r → P r) where
       }
 
   -- every state of the run
-  pub run-bounded : (F : Flags) (rs : List Rec) (n : ℕ) → length rs ≤ 256 → WellFormed rs → Each P rs → Bounded F (length rs) (run n F (start F rs))
+  pub run-bounded : (F : Flags) (rs : List Rec) (n : ℕ) → length rs ≤ mostRecords → WellFormed rs → Each P rs → Bounded F (length rs) (run n F (start F rs))
   unfolding start
   run-bounded F rs n small wf fit =
       bounded-run F (length rs) n (start F rs) small
       (record { counted = start-counted F rs; known = known-start F rs; sizes = sizes-checked F (length rs) (begun rs) (sizes-begun F rs wf fit) })
 
-  -- 256 records and two for each of 512 steps: no more formulas than the tray holds
-  pub bounded-formulas : (F : Flags) (k : ℕ) (s : State) → Bounded F k s → k ≤ 256 → full s ≡ false → length (s .formulas) ≤ 1280
+  -- the input and two for each step: no more formulas than the tray holds
+  pub bounded-formulas : (F : Flags) (k : ℕ) (s : State) → Bounded F k s → k ≤ mostRecords → full s ≡ false → length (s .formulas) ≤ mostFormulas
   bounded-formulas F k s h small e = omega (arith, few-formulas F k s h e)
 
   pub bounded-steps : (F : Flags) (k : ℕ) (s : State) → Bounded F k s → full s ≡ false → s .steps ≤ mostIdentifiers

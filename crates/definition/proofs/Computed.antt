@@ -3,6 +3,7 @@ use mathlib.Core.Path.{_≡_, refl, ap, ap₂, _∙_}
 use mathlib.Core.List.{List, [], _∷_, map}
 use Prim.Native.Nat.{ℕ}
 use native.Mathlib.Omega.{arith}
+use Rattle.definition.specs.Limits.{PaperLengths}
 use Rattle.definition.specs.Records
 use Rattle.definition.specs.Checks
 use Rattle.definition.specs.Checks.{Lengths, LongEnough}
@@ -85,3 +86,6 @@ listing-trays lent h = ap (λ (o : Outcome). traysAfter o lent) (same-outcome (b
 pub refusals : Refusals
 unfolding computed answerOf
 refusals = refl
+
+pub paper-lengths : PaperLengths
+paper-lengths = (refl, refl, refl)

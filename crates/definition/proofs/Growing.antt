@@ -7,6 +7,7 @@ use mathlib.Core.Option.{Option, none, some}
 use Prim.Native.Nat.{ℕ, zero, suc, _<_, _≤_, _+_}
 use native.Mathlib.Omega.{arith}
 use lib.ListN.{length, length-append, length-map, List·getD-eq-default}
+use Rattle.definition.specs.Limits.{mostIdentifiers}
 use Rattle.definition.specs.Lists.{Each, Distinct, filter, upFrom, empty}
 use Rattle.definition.specs.Records.{Rec, marks, nobody}
 use Rattle.definition.specs.Flags.{Flags}
@@ -165,9 +166,9 @@ new-treed t ns new r = subst Tree (sym (append-spots t ns new)) r
 -- each tree on which one of the subtrees is placed is a tree, if it fits
 abbrev pub Steady : List Node → List ℕ → List Targeted → Type 0
 Steady t q [] = Unit {0}
-Steady t q (a ∷ rs) = (length t ≤ 512 → Treed t) × Steady (appendSubtree t q (a .target) (a .subtree) .nodes) (appendSubtree t q (a .target) (a .subtree) .waiting) rs
+Steady t q (a ∷ rs) = (length t ≤ mostIdentifiers → Treed t) × Steady (appendSubtree t q (a .target) (a .subtree) .nodes) (appendSubtree t q (a .target) (a .subtree) .waiting) rs
 
-steady-by : (rs : List Targeted) (t : List Node) (q : List ℕ) → ((before after : List Targeted) → rs ≡ before ++ after → length (appendLogicRuleResult t q before .nodes) ≤ 512 →
+steady-by : (rs : List Targeted) (t : List Node) (q : List ℕ) → ((before after : List Targeted) → rs ≡ before ++ after → length (appendLogicRuleResult t q before .nodes) ≤ mostIdentifiers →
     Treed (appendLogicRuleResult t q before .nodes)) → Steady t q rs
 unfolding appendLogicRuleResult
 steady-by [] t q f = tt

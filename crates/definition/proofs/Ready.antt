@@ -7,7 +7,7 @@ use Prim.Native.Nat.{ℕ, suc, _<_, _≤_}
 use native.Mathlib.Omega.{arith}
 use borrow.Author.Tests.{ltb-false, leb-false}
 use lib.ListN.{length, length-map, length-reverse}
-use Rattle.definition.specs.Limits.{mostIdentifiers, mostWorlds}
+use Rattle.definition.specs.Limits.{mostRecords, mostIdentifiers, worldLimit}
 use Rattle.definition.specs.Lists.{empty}
 use Rattle.definition.specs.Records.{Rec, marks}
 use Rattle.definition.specs.Flags.{Flags}
@@ -67,7 +67,7 @@ Any r = Unit {0}
 
 -- what holds of every state of a run over k records
 pub record Fit (F : Flags) (k : ℕ) (s : State) : Type 0 where
-  pub small : k ≤ 256
+  pub small : k ≤ mostRecords
   pub bounded : Bounded Any (λ r q. tt) F k s
   pub stored : Stored s
   pub treed : length (s .nodes) ≤ mostIdentifiers → Treed (s .nodes)
@@ -85,7 +85,7 @@ fit-step F k s e h =
       treed = λ l. step-keeps F s .treed (h .treed (room s e)) (omega (arith, l));
     }
 
-pub fit-start : (F : Flags) (rs : List Rec) → length rs ≤ 256 → WellFormed rs → empty (marks rs) ≡ false → Fit F (length rs) (start F rs)
+pub fit-start : (F : Flags) (rs : List Rec) → length rs ≤ mostRecords → WellFormed rs → empty (marks rs) ≡ false → Fit F (length rs) (start F rs)
 unfolding start begun steps
 fit-start F rs small wf e =
     record {
@@ -102,7 +102,7 @@ pub record Ready (s : State) : Type 0 where
   pub leaves : length (leaves (s .nodes)) ≤ mostIdentifiers
   pub formulas : length (s .formulas) ≤ 1278
   pub necessities : length (s .necessities) < mostIdentifiers
-  pub worlds : s .graph .worlds < mostWorlds
+  pub worlds : s .graph .worlds < worldLimit
 
 filled : (xs : List ℕ) → empty xs ≡ false → 0 < length xs
 filled [] e = true-false e
@@ -122,7 +122,7 @@ ready F k s h e =
       leaves = omega (arith, l, leaves-few (s .nodes) t);
       formulas = omega (arith, l, c, waits, h .small, h .bounded .sizes .formulas);
       necessities = omega (arith, l, c, waits, h .stored);
-      worlds = leb-false mostWorlds (s .graph .worlds) (or-right (empty (s .waiting)) _ busy);
+      worlds = leb-false worldLimit (s .graph .worlds) (or-right (empty (s .waiting)) _ busy);
     }
 
 -- before its contradictions are checked the tree is one, with room for its leaves

@@ -5,7 +5,7 @@ use Prim.Native.Nat.{ℕ, _≤_, _*_, _-_}
 use native.Mathlib.Omega.{arith}
 use lib.ListN.{length, replicate, drop, length-append, length-map, length-drop, length-replicate}
 use lib.Seq.{drop-append-seam}
-use Rattle.definition.specs.Limits.{mostIdentifiers, mostWorlds, nodeTrayLength, formulaTrayLength, edgeTrayLength}
+use Rattle.definition.specs.Limits.{recordLength, mostIdentifiers, graphWidth, nodeLength, mostFormulas, nodeTrayLength, formulaTrayLength, edgeTrayLength}
 use Rattle.definition.specs.Lists.{concatMap}
 use Rattle.definition.specs.Records.{Rec}
 use Rattle.definition.specs.Checks.{LongEnough}
@@ -28,27 +28,27 @@ pub length-parts : {A : Type 0} (k : ℕ) (f : A → List ℕ) → ((x : A) → 
 length-parts k f h [] = omega arith
 length-parts k f h (x ∷ xs) = simp length-append (omega (arith, h x, length-parts k f h xs))
 
-pub node-length : (n : Node) → length (nodeBytes n) ≡ 12
+pub node-length : (n : Node) → length (nodeBytes n) ≡ nodeLength
 unfolding nodeBytes
 node-length n = refl
 
-pub record-length : (r : Rec) → length (recordBytes r) ≡ 6
+pub record-length : (r : Rec) → length (recordBytes r) ≡ recordLength
 unfolding recordBytes
 record-length r = refl
 
--- the counts fill the trays at most: 512 nodes of 12 bytes, 1,280 records of 6, 25 rows
-pub trays-sized : (s : State) → length (s .nodes) ≤ mostIdentifiers → length (s .formulas) ≤ 1280 → length (s .graph .rows) ≤ mostWorlds → Sized (traysOf s)
+-- the counts fill the trays at most: a record for each node, a record for each formula, a number for each row
+pub trays-sized : (s : State) → length (s .nodes) ≤ mostIdentifiers → length (s .formulas) ≤ mostFormulas → length (s .graph .rows) ≤ graphWidth → Sized (traysOf s)
 unfolding traysOf
 trays-sized s a b c =
     record {
-      nodes = length-padded nodeTrayLength _ (omega (arith, a, length-parts 12 nodeBytes node-length (s .nodes)));
-      formulas = length-padded formulaTrayLength _ (omega (arith, b, length-parts 6 recordBytes record-length (s .formulas)));
+      nodes = length-padded nodeTrayLength _ (omega (arith, a, length-parts nodeLength nodeBytes node-length (s .nodes)));
+      formulas = length-padded formulaTrayLength _ (omega (arith, b, length-parts recordLength recordBytes record-length (s .formulas)));
       edges = length-padded edgeTrayLength _ (omega (arith, c, length-map (s .graph .rows) rowNumber));
     }
 
 pub zero-sized : Sized zeroTrays
 unfolding zeroTrays
-zero-sized = record { nodes = length-replicate {A = ℕ} 6144 0; formulas = length-replicate {A = ℕ} 7680 0; edges = length-replicate {A = ℕ} 25 0 }
+zero-sized = record { nodes = length-replicate {A = ℕ} nodeTrayLength 0; formulas = length-replicate {A = ℕ} formulaTrayLength 0; edges = length-replicate {A = ℕ} edgeTrayLength 0 }
 
 -- a tray keeps its length, and what lies beyond the first n numbers
 pub record Beyond (n : ℕ) (before after : List ℕ) : Type 0 where

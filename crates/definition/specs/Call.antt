@@ -5,7 +5,7 @@ use mathlib.Core.Option.{Option, none, some}
 use Prim.Native.Nat.{ℕ}
 use lib.Dec.{leb}
 use lib.ListN.{length}
-use Rattle.definition.specs.Limits.{mostWorlds}
+use Rattle.definition.specs.Limits.{worldLimit}
 use Rattle.definition.specs.Records.{decode}
 use Rattle.definition.specs.Flags.{flagsOf}
 use Rattle.definition.specs.Checks.{Lengths, Check, refused}
@@ -30,7 +30,7 @@ outcome bytes flags lent = outcomeBy bytes flags (refused bytes flags lent)
 
 -- "Late is set at the end if 25 worlds exist, even beside proved"
 unfoldable pub late : State → Bool
-late s = leb mostWorlds (s .graph .worlds)
+late s = leb worldLimit (s .graph .worlds)
 
 -- "one verdict or one refusal": a refusal's number and record number; or
 -- "proved, late, and the counts of identifiers, formulas (input and made), worlds and steps"

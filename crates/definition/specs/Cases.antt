@@ -2,8 +2,9 @@
 use mathlib.Core.Path.{_≡_}
 use mathlib.Core.Bool.{Bool, true, false, cond}
 use mathlib.Core.List.{List, [], _∷_, _++_, map}
-use Prim.Native.Nat.{ℕ, suc}
+use Prim.Native.Nat.{ℕ, suc, _*_, _-_}
 use lib.ListN.{replicate}
+use Rattle.definition.specs.Limits.{recordLength, nodeLength, nodeTrayLength, formulaTrayLength, edgeTrayLength}
 use Rattle.definition.specs.Lists.{concatMap}
 use Rattle.definition.specs.Checks.{Lengths, LongEnough}
 use Rattle.definition.specs.Tree.{Node, isContradictory}
@@ -81,9 +82,9 @@ listingTrays =
           (255 ∷ 255 ∷ 0 ∷ 0 ∷ 1 ∷ 0 ∷ 255 ∷ 255 ∷ 255 ∷ 255 ∷ 0 ∷ 0 ∷ [])
           ++ (0 ∷ 0 ∷ 2 ∷ 0 ∷ 2 ∷ 0 ∷ 255 ∷ 255 ∷ 255 ∷ 255 ∷ 0 ∷ 0 ∷ [])
           ++ (1 ∷ 0 ∷ 2 ∷ 0 ∷ 0 ∷ 0 ∷ 0 ∷ 0 ∷ 1 ∷ 0 ∷ 1 ∷ 0 ∷ [])
-          ++ replicate 6108 0;
-      formulas = rec 0 0 0 0 ++ (rec 8 1 0 0 ++ (rec 1 1 0 0 ++ replicate 7662 0));
-      edges = 1 ∷ replicate 24 0;
+          ++ replicate (nodeTrayLength - 3 * nodeLength) 0;
+      formulas = rec 0 0 0 0 ++ (rec 8 1 0 0 ++ (rec 1 1 0 0 ++ replicate (formulaTrayLength - 3 * recordLength) 0));
+      edges = 1 ∷ replicate (edgeTrayLength - 1) 0;
     }
 
 abbrev pub ListingTrays : Type 0

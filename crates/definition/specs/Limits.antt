@@ -1,5 +1,7 @@
--- The limits of the paper, and the lengths of its records and trays.
-use Prim.Native.Nat.{ℕ}
+-- The limits of the paper, and the lengths of its records and trays: each number once, and from these what the paper derives.
+-- Code has the same numbers, under the same names, in crates/limits/src.
+use mathlib.Core.Path.{_≡_}
+use Prim.Native.Nat.{ℕ, _+_, _*_}
 
 -- "a branch is a run of 6-byte records"
 abbrev pub recordLength : ℕ
@@ -25,20 +27,32 @@ mostMarked = 64
 abbrev pub mostIdentifiers : ℕ
 mostIdentifiers = 512
 
--- "Late is set at the end if 25 worlds exist"
-abbrev pub mostWorlds : ℕ
-mostWorlds = 25
+-- "A step is done while (..) fewer than 25 worlds exist": the stop
+abbrev pub worldLimit : ℕ
+worldLimit = 25
 
--- "Three trays are lent: nodes (6,144 bytes), formulas (7,680 bytes), edges (25 numbers of 32 bits)"
+-- "edges (25 numbers of 32 bits)": so many worlds have room in the graph, whatever the stop
+abbrev pub graphWidth : ℕ
+graphWidth = 25
+
+-- "A node record is 12 bytes"
+abbrev pub nodeLength : ℕ
+nodeLength = 12
+
+-- the input, and two formulas for each of the steps, which are no more than the identifiers
+abbrev pub mostFormulas : ℕ
+mostFormulas = mostRecords + 2 * mostIdentifiers
+
+-- "Three trays are lent": as many records as there can be nodes, formulas and rows of the graph
 abbrev pub nodeTrayLength : ℕ
-nodeTrayLength = 6144
+nodeTrayLength = nodeLength * mostIdentifiers
 
 abbrev pub formulaTrayLength : ℕ
-formulaTrayLength = 7680
-
--- so many records fill the formula tray
-abbrev pub mostFormulas : ℕ
-mostFormulas = 1280
+formulaTrayLength = recordLength * mostFormulas
 
 abbrev pub edgeTrayLength : ℕ
-edgeTrayLength = 25
+edgeTrayLength = graphWidth
+
+-- "nodes (6,144 bytes), formulas (7,680 bytes), edges (25 numbers of 32 bits)": what is derived here has the paper's figures
+abbrev pub PaperLengths : Type 0
+PaperLengths = (nodeTrayLength ≡ 6144) × (formulaTrayLength ≡ 7680) × (edgeTrayLength ≡ 25)

@@ -1,7 +1,7 @@
 -- Refusals 1 to 11: each with its place, and each beside the next check where both can apply. Proved in proofs/Computed.
 use mathlib.Core.Path.{_≡_}
 use mathlib.Core.List.{List, [], _∷_, _++_, map}
-use Prim.Native.Nat.{ℕ}
+use Prim.Native.Nat.{ℕ, _-_}
 use lib.ListN.{replicate, drop}
 use Rattle.definition.specs.Limits.{nodeTrayLength, formulaTrayLength, edgeTrayLength}
 use Rattle.definition.specs.Lists.{upFrom}
@@ -25,13 +25,13 @@ exactly = record { nodes = nodeTrayLength; formulas = formulaTrayLength; edges =
 
 -- trays of which one is a number too short
 abbrev pub shortNodes : Lengths
-shortNodes = record { nodes = 6143; formulas = 7680; edges = 25 }
+shortNodes = record { nodes = nodeTrayLength - 1; formulas = formulaTrayLength; edges = edgeTrayLength }
 
 abbrev pub shortFormulas : Lengths
-shortFormulas = record { nodes = 6144; formulas = 7679; edges = 25 }
+shortFormulas = record { nodes = nodeTrayLength; formulas = formulaTrayLength - 1; edges = edgeTrayLength }
 
 abbrev pub shortEdges : Lengths
-shortEdges = record { nodes = 6144; formulas = 7680; edges = 24 }
+shortEdges = record { nodes = nodeTrayLength; formulas = formulaTrayLength; edges = edgeTrayLength - 1 }
 
 abbrev pub marked : List ℕ
 marked = rec 0 1 0 0

@@ -5,7 +5,7 @@ use mathlib.Core.Option.{Option, none, some}
 use Prim.Native.Nat.{ℕ, zero, suc, _<_, _+_}
 use lib.Dec.{leb, ltb}
 use lib.ListN.{length}
-use Rattle.definition.specs.Limits.{mostIdentifiers, mostWorlds}
+use Rattle.definition.specs.Limits.{mostIdentifiers, worldLimit}
 use Rattle.definition.specs.Lists.{upFrom, below, all, elem, filter, empty}
 use Rattle.definition.specs.Records.{Rec, marks, nobody}
 use Rattle.definition.specs.Flags.{Flags}
@@ -128,7 +128,7 @@ step F s = stepBy F s (pop (s .formulas) (s .nodes) (s .waiting))
 
 -- "A step is done while a node waits, proved is false and fewer than 25 worlds exist": otherwise the run has ended
 unfoldable pub ended : State → Bool
-ended s = s .proved || (empty (s .waiting) || leb mostWorlds (s .graph .worlds))
+ended s = s .proved || (empty (s .waiting) || leb worldLimit (s .graph .worlds))
 
 -- "the run (..) issues more than 512 identifiers"
 unfoldable pub full : State → Bool

@@ -7,7 +7,7 @@ use mathlib.Core.Logic.{_⊎_, inl, inr}
 use Prim.Native.Nat.{ℕ, _≤_, _<_, _/_}
 use native.Mathlib.Omega.{arith}
 use lib.ListN.{length}
-use Rattle.definition.specs.Limits.{mostWorlds}
+use Rattle.definition.specs.Limits.{worldLimit}
 use Rattle.definition.specs.Lists.{Each, empty}
 use Rattle.definition.specs.Records.{Rec, Unknown, nobody, made, decode, recAt, marks}
 use Rattle.definition.specs.Flags.{Flags, flagsOf}
@@ -108,8 +108,8 @@ module _ (branch : List ℕ) (flags : ℕ) (lent : Trays) where
           columns = b .squared .each;
         }
       where
-        low : final F rs .graph .worlds ≤ mostWorlds → (final F rs .graph .worlds ≡ 0) ⊎ (initializeGraphIfNeeded F (final F rs .graph) .worlds ≡ final F rs .graph .worlds) →
-            initializeGraphIfNeeded F (final F rs .graph) .worlds ≤ mostWorlds
+        low : final F rs .graph .worlds ≤ worldLimit → (final F rs .graph .worlds ≡ 0) ⊎ (initializeGraphIfNeeded F (final F rs .graph) .worlds ≡ final F rs .graph .worlds) →
+            initializeGraphIfNeeded F (final F rs .graph) .worlds ≤ worldLimit
         low h (inl d) = omega (arith, init-one F (final F rs .graph) d)
         low h (inr d) = omega (arith, h, d)
 

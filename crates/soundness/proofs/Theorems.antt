@@ -10,7 +10,7 @@ use lib.Dec.{leb}
 use lib.Pow.{pow-mono}
 use borrow.Author.Tests.{leb-true, ltb-true}
 use lib.ListN.{length}
-use Rattle.definition.specs.Limits.{mostIdentifiers, mostWorlds}
+use Rattle.definition.specs.Limits.{mostIdentifiers, worldLimit, graphWidth}
 use Rattle.definition.specs.Lists.{Each, empty, below}
 use Rattle.definition.specs.Records.{Rec, decode, nobody}
 use Rattle.definition.specs.Flags.{Flags, flagsOf}
@@ -65,16 +65,16 @@ run-stops F rs = go (or-cases (ended z) (full z) (Exact.final-stops F rs))
     z = final F rs
 
     go : (ended z ≡ true) ⊎ (full z ≡ true) →
-        (z .proved ≡ true) ⊎ ((empty (z .waiting) ≡ true) ⊎ ((mostWorlds ≤ z .graph .worlds) ⊎ (mostIdentifiers < length (z .nodes))))
+        (z .proved ≡ true) ⊎ ((empty (z .waiting) ≡ true) ⊎ ((worldLimit ≤ z .graph .worlds) ⊎ (mostIdentifiers < length (z .nodes))))
     go (inr q) = inr (inr (inr (ltb-true mostIdentifiers (length (z .nodes)) q)))
     go (inl q) = first (or-cases (z .proved) _ q)
       where
-        second : (empty (z .waiting) ≡ true) ⊎ (leb mostWorlds (z .graph .worlds) ≡ true) → (empty (z .waiting) ≡ true) ⊎ ((mostWorlds ≤ z .graph .worlds) ⊎ (mostIdentifiers < length (z .nodes)))
+        second : (empty (z .waiting) ≡ true) ⊎ (leb worldLimit (z .graph .worlds) ≡ true) → (empty (z .waiting) ≡ true) ⊎ ((worldLimit ≤ z .graph .worlds) ⊎ (mostIdentifiers < length (z .nodes)))
         second (inl e) = inl e
-        second (inr e) = inr (inl (leb-true mostWorlds (z .graph .worlds) e))
+        second (inr e) = inr (inl (leb-true worldLimit (z .graph .worlds) e))
 
-        first : (z .proved ≡ true) ⊎ ((empty (z .waiting) || leb mostWorlds (z .graph .worlds)) ≡ true) →
-            (z .proved ≡ true) ⊎ ((empty (z .waiting) ≡ true) ⊎ ((mostWorlds ≤ z .graph .worlds) ⊎ (mostIdentifiers < length (z .nodes))))
+        first : (z .proved ≡ true) ⊎ ((empty (z .waiting) || leb worldLimit (z .graph .worlds)) ≡ true) →
+            (z .proved ≡ true) ⊎ ((empty (z .waiting) ≡ true) ⊎ ((worldLimit ≤ z .graph .worlds) ⊎ (mostIdentifiers < length (z .nodes))))
         first (inl e) = inl e
         first (inr e) = inr (second (or-cases (empty (z .waiting)) _ e))
 
@@ -186,11 +186,11 @@ module _ (branch : List ℕ) (flags : ℕ) (lent : Lengths) (a : Accepted branch
         rows = each-map (λ (row : List Bool) (k : length row ≡ z .graph .worlds). row-fits row (omega (arith, k, b .worlds))) (z .graph .rows) (b .squared .each);
       }
     where
-      worlds-low : z .graph .worlds ≤ mostWorlds → (z .graph .worlds ≡ 0) ⊎ (initializeGraphIfNeeded F (z .graph) .worlds ≡ z .graph .worlds) → initializeGraphIfNeeded F (z .graph) .worlds ≤ mostWorlds
+      worlds-low : z .graph .worlds ≤ worldLimit → (z .graph .worlds ≡ 0) ⊎ (initializeGraphIfNeeded F (z .graph) .worlds ≡ z .graph .worlds) → initializeGraphIfNeeded F (z .graph) .worlds ≤ worldLimit
       worlds-low h (inl d) = omega (arith, init-one F (z .graph) d)
       worlds-low h (inr d) = omega (arith, h, d)
 
-      row-fits : (row : List Bool) → length row ≤ 25 → rowNumber row < 2 ^ 25
+      row-fits : (row : List Bool) → length row ≤ graphWidth → rowNumber row < 2 ^ graphWidth
       row-fits row h = lt-of-lt-of-le (Calls.row-low row) (pow-mono h)
 
 pub runs-fit : RunsFit

@@ -7,7 +7,7 @@ use mathlib.Core.Option.{none}
 use mathlib.Core.Logic.{_⊎_, _↔_, _≢_}
 use Prim.Native.Nat.{ℕ, suc, _<_, _≤_, _+_, _^_}
 use lib.ListN.{length, drop}
-use Rattle.definition.specs.Limits.{mostIdentifiers, mostWorlds, mostFormulas, nodeTrayLength, formulaTrayLength, edgeTrayLength}
+use Rattle.definition.specs.Limits.{mostIdentifiers, worldLimit, graphWidth, mostFormulas, nodeTrayLength, formulaTrayLength, edgeTrayLength}
 use Rattle.definition.specs.Lists.{Each, Distinct, empty}
 use Rattle.definition.specs.Records.{Rec, nobody, isNobody, decode, marks, numberOf}
 use Rattle.definition.specs.Formula.{formAt}
@@ -37,7 +37,7 @@ RulesArePriests =
 abbrev pub Stops : Type 0
 Stops =
     (F : Flags) (rs : List Rec) →
-    (final F rs .proved ≡ true) ⊎ ((empty (final F rs .waiting) ≡ true) ⊎ ((mostWorlds ≤ final F rs .graph .worlds) ⊎ (mostIdentifiers < length (final F rs .nodes))))
+    (final F rs .proved ≡ true) ⊎ ((empty (final F rs .waiting) ≡ true) ⊎ ((worldLimit ≤ final F rs .graph .worlds) ⊎ (mostIdentifiers < length (final F rs .nodes))))
 
 abbrev pub StaysStopped : Type 0
 StaysStopped = (k : ℕ) (F : Flags) (rs : List Rec) → mostIdentifiers < k → run k F (start F rs) ≡ final F rs
@@ -109,7 +109,7 @@ Number n x = (x ≡ nobody) ⊎ (x < n)
 -- a node of a run with n identifiers and m formulas
 pub record NodeFits (n m : ℕ) (x : Node) : Type 0 where
   pub parent : Number n (x .parent)
-  pub world : x .world < mostWorlds
+  pub world : x .world < worldLimit
   pub formula : Number m (x .formula)
   pub spawner : Number n (x .spawner)
   pub contrarian : Number n (x .contrarian)
@@ -125,10 +125,10 @@ pub record Fits (s : State) : Type 0 where
   pub identifiers : length (s .nodes) ≤ mostIdentifiers
   pub steps : s .steps ≤ mostIdentifiers
   pub formulas : length (s .formulas) ≤ mostFormulas
-  pub worlds : s .graph .worlds ≤ mostWorlds
+  pub worlds : s .graph .worlds ≤ worldLimit
   pub nodes : (x : ℕ) → x < length (s .nodes) → NodeFits (length (s .nodes)) (length (s .formulas)) (nodeAt (s .nodes) x)
   pub records : Each RecordFits (s .formulas)
-  pub rows : Each (λ (row : List Bool). rowNumber row < 2 ^ mostWorlds) (s .graph .rows)
+  pub rows : Each (λ (row : List Bool). rowNumber row < 2 ^ graphWidth) (s .graph .rows)
 
 abbrev pub RunsFit : Type 0
 RunsFit =

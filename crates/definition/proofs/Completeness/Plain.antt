@@ -7,7 +7,7 @@ use Prim.Native.Nat.{ℕ, suc, _<_, _≤_, _+_}
 use native.Mathlib.Omega.{arith}
 use borrow.Author.Tests.{ne-eqb}
 use lib.ListN.{length, length-append}
-use Rattle.definition.specs.Limits.{mostIdentifiers, mostRecords}
+use Rattle.definition.specs.Limits.{mostRecords, mostIdentifiers}
 use Rattle.definition.specs.Lists.{Each}
 use Rattle.definition.specs.Records.{Rec, nobody, isNobody, decode, marks}
 use Rattle.definition.specs.Checks.{Lengths}

@@ -1,0 +1,91 @@
+// The numbers of definition/specs/Limits under the same names, the lengths of specs/Arrays, and a type for each array that is lent.
+
+pub const RECORD_LENGTH: usize = 6;
+
+pub const MOST_RECORDS: usize = 256;
+
+pub const MOST_SIZE: usize = 4096;
+
+pub const MOST_FLAGS: u8 = 15;
+
+pub const MOST_MARKED: usize = 64;
+
+pub const MOST_IDENTIFIERS: usize = 512;
+
+// A count that says: more than there is room for.
+pub const FULL: usize = MOST_IDENTIFIERS + 1;
+
+// The stop: so many worlds end a run.
+pub const WORLD_LIMIT: usize = 25;
+
+// So many worlds have room in the graph.
+pub const GRAPH_WIDTH: usize = 25;
+
+pub const NODE_LENGTH: usize = 12;
+
+pub const MOST_FORMULAS: usize = MOST_RECORDS + 2 * MOST_IDENTIFIERS;
+
+pub const NODE_TRAY_LENGTH: usize = NODE_LENGTH * MOST_IDENTIFIERS;
+
+pub const FORMULA_TRAY_LENGTH: usize = RECORD_LENGTH * MOST_FORMULAS;
+
+pub const EDGE_TRAY_LENGTH: usize = GRAPH_WIDTH;
+
+pub const NODE_FIELDS: usize = 9;
+
+pub const NODE_CELLS: usize = MOST_IDENTIFIERS * NODE_FIELDS;
+
+pub const FORMULA_FIELDS: usize = 4;
+
+pub const FORMULA_CELLS: usize = MOST_FORMULAS * FORMULA_FIELDS;
+
+pub const EDGE_CELLS: usize = GRAPH_WIDTH * GRAPH_WIDTH;
+
+pub const NECESSITY_FIELDS: usize = 3;
+
+pub const NECESSITY_CELLS: usize = MOST_IDENTIFIERS * NECESSITY_FIELDS;
+
+pub const ITEM_FIELDS: usize = 3;
+
+pub const ITEM_CELLS: usize = MOST_IDENTIFIERS * ITEM_FIELDS;
+
+pub const WORD_BITS: usize = 32;
+
+pub const ROW_WORDS: usize = MOST_IDENTIFIERS / WORD_BITS;
+
+pub const LEAF_COUNT: usize = MOST_IDENTIFIERS * MOST_IDENTIFIERS;
+
+pub const LEAF_WORDS: usize = MOST_IDENTIFIERS * ROW_WORDS;
+
+// A list of identifiers or worlds, from its first entry on.
+pub type Numbers = [u16; MOST_IDENTIFIERS];
+
+// The nodes, a row of NODE_FIELDS numbers each.
+pub type Nodes = [u16; NODE_CELLS];
+
+// The formulas, a row of FORMULA_FIELDS numbers each.
+pub type Formulas = [u16; FORMULA_CELLS];
+
+// The edges, a row of GRAPH_WIDTH flags for each world.
+pub type Edges = [u8; EDGE_CELLS];
+
+// The stored necessities, a row of NECESSITY_FIELDS numbers each.
+pub type Necessities = [u16; NECESSITY_CELLS];
+
+// The leaves of the stored necessities, a row of MOST_IDENTIFIERS bits each.
+pub type Leaves = [u32; LEAF_WORDS];
+
+// A word of worlds for each necessity, or for each node: bit v is world v.
+pub type Worlds = [u32; MOST_IDENTIFIERS];
+
+// Subtrees that are to be placed, a row of ITEM_FIELDS numbers each.
+pub type Items = [u16; ITEM_CELLS];
+
+// The identifiers that wait, in the order in which they were queued.
+pub type Waiting = Numbers;
+
+// The classes of those that wait, in the same order.
+pub type Classes = Numbers;
+
+// The rows of the stored necessities, in the order in which they are popped.
+pub type Order = Numbers;
