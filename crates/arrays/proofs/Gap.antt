@@ -4,6 +4,7 @@ use mathlib.Core.Path.{_≡_, sym, _∙_}
 use mathlib.Core.List.{List, _++_}
 use native.Mathlib.Omega.{arith}
 use lib.ListN.{length, getD, set, take, drop, List·getD-eq-default}
+use Rattle.definition.specs.Limits.{mostIdentifiers}
 use Rattle.arrays.specs.Data.{pad, without}
 use Rattle.arrays.specs.Listed.{Listed, listed, tooLong}
 use Rattle.arrays.proofs.Laws.{getD-pad, length-pad, take-pad, drop-pads, length-without, getD-without, take-without, part-step, part-read, part-whole, part-begin}
@@ -11,45 +12,45 @@ use Rattle.arrays.proofs.Listed.{listed-count, listed-array}
 
 -- the entries before j moved up, and those from j on as they were
 unfoldable pub moved : List ℕ → ℕ → ℕ → List ℕ
-moved l i j = take j (pad 512 (without l i)) ++ drop j (pad 512 l)
+moved l i j = take j (pad mostIdentifiers (without l i)) ++ drop j (pad mostIdentifiers l)
 
-module _ {l : List ℕ} {n : ℕ} {a : List ℕ} (p : Listed l n a) (g : n ≤ 512) (i : ℕ) (h : i < n) where
+module _ {l : List ℕ} {n : ℕ} {a : List ℕ} (p : Listed l n a) (g : n ≤ mostIdentifiers) (i : ℕ) (h : i < n) where
   shorter : length (without l i) + 1 ≡ n
   shorter = length-without l i (omega (arith, listed-count p g)) ∙ listed-count p g
 
-  whole : length (pad 512 l) ≡ 512
-  whole = length-pad 512 l (omega (arith, listed-count p g))
+  whole : length (pad mostIdentifiers l) ≡ mostIdentifiers
+  whole = length-pad mostIdentifiers l (omega (arith, listed-count p g))
 
-  long : length (pad 512 (without l i)) ≡ length (pad 512 l)
-  long = length-pad 512 (without l i) (omega (arith, shorter)) ∙ sym whole
+  long : length (pad mostIdentifiers (without l i)) ≡ length (pad mostIdentifiers l)
+  long = length-pad mostIdentifiers (without l i) (omega (arith, shorter)) ∙ sym whole
 
   pub gap-begin : a ≡ moved l i i
   unfolding moved
   gap-begin =
       let e : length l ≡ n = listed-count p g in
       listed-array p g
-      ∙ sym (part-begin (pad 512 (without l i)) (pad 512 l) long i
-      (take-pad 512 i (without l i) (omega (arith, shorter)) ∙ take-without l i (omega arith) ∙ sym (take-pad 512 i l (omega arith))))
+      ∙ sym (part-begin (pad mostIdentifiers (without l i)) (pad mostIdentifiers l) long i
+      (take-pad mostIdentifiers i (without l i) (omega (arith, shorter)) ∙ take-without l i (omega arith) ∙ sym (take-pad mostIdentifiers i l (omega arith))))
 
   pub gap-step : (j : ℕ) (w : List ℕ) → i ≤ j → j < n - 1 → w ≡ moved l i j → set w j (getD w (j + 1) 0) ≡ moved l i (j + 1)
   unfolding moved
   gap-step j w b c q =
       let e : length l ≡ n = listed-count p g in
-      let f : length (pad 512 l) ≡ 512 = whole in
+      let f : length (pad mostIdentifiers l) ≡ mostIdentifiers = whole in
       rw q
-      (part-step (pad 512 (without l i)) (pad 512 l) long j _ (omega arith)
-      (part-read (pad 512 (without l i)) (pad 512 l) long j (j + 1) (omega arith) (omega arith)
-      ∙ getD-pad 512 l (j + 1)
+      (part-step (pad mostIdentifiers (without l i)) (pad mostIdentifiers l) long j _ (omega arith)
+      (part-read (pad mostIdentifiers (without l i)) (pad mostIdentifiers l) long j (j + 1) (omega arith) (omega arith)
+      ∙ getD-pad mostIdentifiers l (j + 1)
       ∙ sym (getD-without l i j (omega arith) b)
-      ∙ sym (getD-pad 512 (without l i) j)))
+      ∙ sym (getD-pad mostIdentifiers (without l i) j)))
 
   pub gap-end : (j : ℕ) (w : List ℕ) → j ≡ n - 1 → w ≡ moved l i j → Listed (without l i) (n - 1) (set w (n - 1) 0)
   unfolding moved
   gap-end j w c q =
       let e : length l ≡ n = listed-count p g in
-      let f : length (pad 512 l) ≡ 512 = whole in
+      let f : length (pad mostIdentifiers l) ≡ mostIdentifiers = whole in
       let s : length (without l i) + 1 ≡ n = shorter in
       listed (omega arith) (omega arith)
       (rw (← c, q)
-      (part-step (pad 512 (without l i)) (pad 512 l) long j 0 (omega arith) (sym (getD-pad 512 (without l i) j ∙ List·getD-eq-default (without l i) 0 (omega arith)))
-      ∙ part-whole (pad 512 (without l i)) (pad 512 l) long (j + 1) (drop-pads 512 (j + 1) (without l i) l (omega arith) (omega arith) (omega arith))))
+      (part-step (pad mostIdentifiers (without l i)) (pad mostIdentifiers l) long j 0 (omega arith) (sym (getD-pad mostIdentifiers (without l i) j ∙ List·getD-eq-default (without l i) 0 (omega arith)))
+      ∙ part-whole (pad mostIdentifiers (without l i)) (pad mostIdentifiers l) long (j + 1) (drop-pads mostIdentifiers (j + 1) (without l i) l (omega arith) (omega arith) (omega arith))))

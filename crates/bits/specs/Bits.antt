@@ -5,6 +5,7 @@ use mathlib.Core.Bool.{Bool}
 use mathlib.Core.List.{List}
 use lib.ListN.{length, getD}
 use lib.Dec.{eqb}
+use Rattle.limits.specs.Arrays.{leafCount, leafWords}
 
 -- bit k of a number
 unfoldable pub bitOf : ℕ → ℕ → Bool
@@ -16,5 +17,5 @@ bitAt a i = bitOf (getD a (i / 32) 0) (i % 32)
 
 -- the array has the bits of the set p
 pub record Bits (p : ℕ → Bool) (a : List ℕ) : Type 0 where
-  pub long : length a ≡ 8192
-  pub same : (i : ℕ) → i < 262144 → bitAt a i ≡ p i
+  pub long : length a ≡ leafWords
+  pub same : (i : ℕ) → i < leafCount → bitAt a i ≡ p i

@@ -1,9 +1,15 @@
 // A set of numbers below 262,144, one bit each, in an array of 8,192 words.
 // Of a call whose arrays lay out nothing of the kind that its contract names: it ends and stays in bounds; its outcome is free.
+use limits::LEAF_COUNT;
+use limits::Leaves;
+use limits::MOST_IDENTIFIERS;
+use limits::ROW_WORDS;
 ghost use mathlib.Core.Path.{_≡_};
 ghost use mathlib.Core.Bool.{Bool, not, _&&_, _||_};
 ghost use Prim.Native.Nat.{ℕ, _/_, _%_, _<_};
 ghost use lib.Dec.{eqb, ltb};
+ghost use Rattle.definition.specs.Limits.{mostIdentifiers};
+ghost use Rattle.limits.specs.Arrays.{leafCount};
 ghost use Rattle.bits.specs.Bits.{bitOf, Bits};
 
 // The bit of i in a word.
@@ -24,20 +30,20 @@ pub fn with_bit(word: u32, i: usize) -> u32
 }
 
 // Whether i is in the set. No number out of range is.
-pub fn contains(words: &[u32; 8192], i: usize) -> bool
-    ensures { λ r. ⌜ ((p : ℕ → Bool) → Bits p (now (words .entry)) → r ≡ (ltb i 262144 && p i)) ⌝ }
+pub fn contains(words: &Leaves, i: usize) -> bool
+    ensures { λ r. ⌜ ((p : ℕ → Bool) → Bits p (now (words .entry)) → r ≡ (ltb i leafCount && p i)) ⌝ }
 {
-    if 262144 <= i {
+    if LEAF_COUNT <= i {
         return false;
     }
     bit(words[i / 32], i)
 }
 
 // Puts i into the set. Nothing changes for an i out of range.
-pub fn insert(words: &mut [u32; 8192], i: usize)
+pub fn insert(words: &mut Leaves, i: usize)
     ensures { λ r. ⌜ ((p : ℕ → Bool) → Bits p (now (words .entry)) → Bits (λ j. eqb j i || p j) (now (words .exit))) ⌝ }
 {
-    if 262144 <= i {
+    if LEAF_COUNT <= i {
         return;
     }
     let k = i / 32;
@@ -46,14 +52,14 @@ pub fn insert(words: &mut [u32; 8192], i: usize)
 }
 
 // Takes the numbers from row * 512 to row * 512 + 511 out of the set. There are 512 rows.
-pub fn clear_row(words: &mut [u32; 8192], row: usize)
-    ensures { λ r. ⌜ ((p : ℕ → Bool) → Bits p (now (words .entry)) → Bits (λ j. not (eqb (j / 512) row) && p j) (now (words .exit))) ⌝ }
+pub fn clear_row(words: &mut Leaves, row: usize)
+    ensures { λ r. ⌜ ((p : ℕ → Bool) → Bits p (now (words .entry)) → Bits (λ j. not (eqb (j / mostIdentifiers) row) && p j) (now (words .exit))) ⌝ }
 {
-    if 512 <= row {
+    if MOST_IDENTIFIERS <= row {
         return;
     }
-    let first = row * 16;
-    for k in first..first + 16 {
+    let first = row * ROW_WORDS;
+    for k in first..first + ROW_WORDS {
         words[k] = 0;
     }
 }

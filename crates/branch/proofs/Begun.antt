@@ -10,6 +10,7 @@ use borrow.Author.Tests.{eq-eqb, ne-eqb, eqb-true, eqb-false}
 use lib.Dec.{eqb}
 use lib.ListN.{length, drop, length-map, drop-of-length-le}
 use lib.Seq.{drop-cons, set-getD}
+use Rattle.definition.specs.Limits.{mostIdentifiers, mostFormulas}
 use Rattle.arrays.specs.Listed.{Listed}
 use Rattle.definition.specs.Lists.{below, upFrom}
 use Rattle.definition.specs.Records.{Rec, nobody, marks, marksFrom, recAt}
@@ -67,7 +68,7 @@ module _ (rs : List Rec) where
   pub beginning-start : {a : List ℕ} → Held [] 0 a → Beginning rs 0 a 0
   beginning-start p = growth-as _ from-first (growth-start p)
 
-  module _ {count : ℕ} {t : List ℕ} (p : Recorded rs count t) (few : count ≤ 1280) {len : ℕ} {a : List ℕ} (i : ℕ) (g : Beginning rs len a i) where
+  module _ {count : ℕ} {t : List ℕ} (p : Recorded rs count t) (few : count ≤ mostFormulas) {len : ℕ} {a : List ℕ} (i : ℕ) (g : Beginning rs len a i) where
     module _ (m : ℕ) (h : i < count) (e : m ≡ recAt rs i .mark) where
       -- record i read, and its node made if it is marked
       pub beginning-next : (t : Bool) {k : ℕ} {b : List ℕ} → t ≡ eqb m 1 →
@@ -92,9 +93,9 @@ root-chained (x ∷ xs) = ap (λ (ms : List Node). linkChain ms 0 Middle (upFrom
 
 -- the chain of all nodes, linked from its top on
 pub rooted-linked : (ns : List Node) (r : IssuedChain) {a b : List ℕ} → Held ns (r .len) a → DrawnFrom 0 r →
-    ((ms : List Node) (q : Place) → placeCode q ≡ 0 → Held ms (r .len) a → (length ms ≤ 512 → Below (r .chain) (length ms)) → Held (linkChain ms nobody q (chainOf (r .chain))) (r .len) b) →
+    ((ms : List Node) (q : Place) → placeCode q ≡ 0 → Held ms (r .len) a → (length ms ≤ mostIdentifiers → Below (r .chain) (length ms)) → Held (linkChain ms nobody q (chainOf (r .chain))) (r .len) b) →
     Held (rooted ns) (r .len) b
-rooted-linked ns r {a} {b} p d f = elim (decLe (r .len) 512) [
+rooted-linked ns r {a} {b} p d f = elim (decLe (r .len) mostIdentifiers) [
   | yes h ↦
       let s = d h in
       let e = held-ok p h .0 in
@@ -105,8 +106,8 @@ rooted-linked ns r {a} {b} p d f = elim (decLe (r .len) 512) [
 ]
 
 -- ---- the queue
-pub queued : (rs : List Rec) {len m n : ℕ} {t a b : List ℕ} → length (branchNodes rs) ≡ len → len ≤ 512 →
-    ((ns : List Node) (q : List ℕ) → length ns ≤ 512 → t ≡ lay ns → Listed q m a → Listed (pushTreeNode len ns q 0) n b) →
+pub queued : (rs : List Rec) {len m n : ℕ} {t a b : List ℕ} → length (branchNodes rs) ≡ len → len ≤ mostIdentifiers →
+    ((ns : List Node) (q : List ℕ) → length ns ≤ mostIdentifiers → t ≡ lay ns → Listed q m a → Listed (pushTreeNode len ns q 0) n b) →
     t ≡ lay (rooted (branchNodes rs)) → Listed [] m a → Listed (reverse (below (length (branchNodes rs)))) n b
 queued rs {len} {m} {n} {t} {a} {b} e few f l p =
     subst (λ (q : List ℕ). Listed q n b)

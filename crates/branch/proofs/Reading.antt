@@ -6,6 +6,7 @@ use native.Mathlib.Nat.{sub-zero}
 use native.Mathlib.Numerals.{add-one}
 use native.Mathlib.Omega.{arith}
 use lib.ListN.{length}
+use Rattle.definition.specs.Limits.{recordLength}
 use Rattle.definition.specs.Lists.{upFrom}
 use Rattle.definition.specs.Records.{Rec, recordAt, decode}
 use Rattle.formula.specs.Recorded.{Recorded}
@@ -20,7 +21,7 @@ abbrev pub Reading : List ℕ → ℕ → List ℕ → ℕ → ℕ → Type 0
 Reading bytes n a m i = Growth (λ rs. Recorded rs n a) (decode bytes) (recordsFrom bytes m i)
 
 module _ (bytes : List ℕ) where
-  from-first : (m : ℕ) → m ≡ length bytes / 6 → decode bytes ≡ recordsFrom bytes m 0
+  from-first : (m : ℕ) → m ≡ length bytes / recordLength → decode bytes ≡ recordsFrom bytes m 0
   unfolding decode
   from-first m e = rw (sub-zero, e) refl
 
@@ -32,7 +33,7 @@ module _ (bytes : List ℕ) where
   from-last : (m i : ℕ) → m ≤ i → recordsFrom bytes m i ≡ []
   from-last m i h = let z : m - i ≡ 0 = omega arith in rw z refl
 
-  pub reading-start : {a : List ℕ} {m : ℕ} → m ≡ length bytes / 6 → Recorded [] 0 a → Reading bytes 0 a m 0
+  pub reading-start : {a : List ℕ} {m : ℕ} → m ≡ length bytes / recordLength → Recorded [] 0 a → Reading bytes 0 a m 0
   reading-start {m = m} e p = growth-as _ (from-first m e) (growth-start p)
 
   module _ {n : ℕ} {a : List ℕ} {m i : ℕ} (g : Reading bytes n a m i) where

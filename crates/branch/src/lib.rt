@@ -5,6 +5,12 @@ use formula::FormulaNumber;
 use formula::mark_at;
 use formula::push_input;
 use graph::PossibleWorld;
+use limits::Formulas;
+use limits::MOST_FORMULAS;
+use limits::MOST_RECORDS;
+use limits::Nodes;
+use limits::RECORD_LENGTH;
+use limits::Waiting;
 use queue::push_tree_node;
 use tree::Chain;
 use tree::IssuedChain;
@@ -15,6 +21,7 @@ ghost use mathlib.Core.Path.{_≡_};
 ghost use mathlib.Core.List.{List, [], reverse};
 ghost use Prim.Native.Nat.{_≤_, _/_};
 ghost use lib.ListN.{length};
+ghost use Rattle.definition.specs.Limits.{recordLength, mostRecords, mostIdentifiers, mostFormulas};
 ghost use Rattle.arrays.specs.Listed.{Listed};
 ghost use Rattle.definition.specs.Lists.{below};
 ghost use Rattle.definition.specs.Records.{Rec, decode};
@@ -24,17 +31,17 @@ ghost use Rattle.tree.specs.Chain.{DrawnFrom};
 ghost use Rattle.tree.specs.Lay.{lay, Held};
 
 // The records, in order.
-pub fn read_records(branch: &[u8], formulas: &mut [u16; 5120]) -> usize
-    ensures { λ r. ⌜ (length (now (branch .entry)) / 6 ≤ 256 → Recorded [] 0 (now (formulas .entry)) → Recorded (decode (now (branch .entry))) r (now (formulas .exit))) ⌝ }
+pub fn read_records(branch: &[u8], formulas: &mut Formulas) -> usize
+    ensures { λ r. ⌜ (length (now (branch .entry)) / recordLength ≤ mostRecords → Recorded [] 0 (now (formulas .entry)) → Recorded (decode (now (branch .entry))) r (now (formulas .exit))) ⌝ }
 {
-    let count = branch.len() / 6;
+    let count = branch.len() / RECORD_LENGTH;
     let mut n: usize = 0;
     let mut i: usize = 0;
     while i < count {
-        if 256 <= i {
+        if MOST_RECORDS <= i {
             return n;
         }
-        if branch.len() < 6 * i + 6 {
+        if branch.len() < RECORD_LENGTH * i + RECORD_LENGTH {
             return n;
         }
         let x = record_at(branch, i);
@@ -45,8 +52,8 @@ pub fn read_records(branch: &[u8], formulas: &mut [u16; 5120]) -> usize
 }
 
 // A node for each marked record, each below the last one.
-fn branch_nodes(formulas: &[u16; 5120], count: usize, tree: &mut [u16; 4608]) -> IssuedChain
-    ensures { λ r. ⌜ DrawnFrom 0 r × ((rs : List Rec) → Recorded rs count (now (formulas .entry)) → count ≤ 1280 → Held [] 0 (now (tree .entry)) → Held (branchNodes rs) (r .len) (now (tree .exit))) ⌝ }
+fn branch_nodes(formulas: &Formulas, count: usize, tree: &mut Nodes) -> IssuedChain
+    ensures { λ r. ⌜ DrawnFrom 0 r × ((rs : List Rec) → Recorded rs count (now (formulas .entry)) → count ≤ mostFormulas → Held [] 0 (now (tree .entry)) → Held (branchNodes rs) (r .len) (now (tree .exit))) ⌝ }
 {
     let mut nodes = IssuedChain {
         chain: Chain::EMPTY,
@@ -54,7 +61,7 @@ fn branch_nodes(formulas: &[u16; 5120], count: usize, tree: &mut [u16; 4608]) ->
     };
     let mut i: usize = 0;
     while i < count {
-        if 1280 <= i {
+        if MOST_FORMULAS <= i {
             return nodes;
         }
         let f = FormulaNumber(i as u16);
@@ -73,8 +80,8 @@ fn branch_nodes(formulas: &[u16; 5120], count: usize, tree: &mut [u16; 4608]) ->
 }
 
 // The nodes of the branch, as many as are marked: the first is the root; each further one is the middle child of the one before.
-pub fn begin_tree(formulas: &[u16; 5120], count: usize, tree: &mut [u16; 4608]) -> usize
-    ensures { λ r. ⌜ ((rs : List Rec) → Recorded rs count (now (formulas .entry)) → count ≤ 1280 → Held [] 0 (now (tree .entry)) → Held (rooted (branchNodes rs)) r (now (tree .exit))) ⌝ }
+pub fn begin_tree(formulas: &Formulas, count: usize, tree: &mut Nodes) -> usize
+    ensures { λ r. ⌜ ((rs : List Rec) → Recorded rs count (now (formulas .entry)) → count ≤ mostFormulas → Held [] 0 (now (tree .entry)) → Held (rooted (branchNodes rs)) r (now (tree .exit))) ⌝ }
 {
     let nodes = branch_nodes(formulas, count, tree);
     let chain = nodes.chain;
@@ -83,8 +90,8 @@ pub fn begin_tree(formulas: &[u16; 5120], count: usize, tree: &mut [u16; 4608]) 
 }
 
 // The nodes of the branch, queued from the root.
-pub fn begin_queue(tree: &[u16; 4608], len: usize, wait: &mut [u16; 512]) -> usize
-    ensures { λ r. ⌜ ((rs : List Rec) → length (branchNodes rs) ≡ len → len ≤ 512 → now (tree .entry) ≡ lay (rooted (branchNodes rs)) → Listed [] 0 (now (wait .entry))
+pub fn begin_queue(tree: &Nodes, len: usize, wait: &mut Waiting) -> usize
+    ensures { λ r. ⌜ ((rs : List Rec) → length (branchNodes rs) ≡ len → len ≤ mostIdentifiers → now (tree .entry) ≡ lay (rooted (branchNodes rs)) → Listed [] 0 (now (wait .entry))
         → Listed (reverse (below (length (branchNodes rs)))) r (now (wait .exit))) ⌝ }
 {
     push_tree_node(tree, wait, 0, ProofTreeNodeID::ROOT, len)

@@ -9,6 +9,7 @@ use native.Mathlib.Omega.{arith}
 use lib.Dec.{eqb}
 use borrow.Author.Tests.{ne-eqb}
 use lib.ListN.{length}
+use Rattle.definition.specs.Limits.{mostIdentifiers}
 use Rattle.arrays.specs.Listed.{Listed, listed, tooLong}
 use Rattle.definition.specs.Lists.{all, filter, empty, upFrom}
 use Rattle.definition.specs.Records.{Rec, nobody}
@@ -116,7 +117,7 @@ module _ {rs : List Rec} {t : List Node} {old len : ℕ} {a : List ℕ} {every :
 
 -- ---- the whole check
 -- too many nodes stay too many
-pub marked-full : {ns : List Node} {len : ℕ} {a : List ℕ} (ps : List (Option Pair)) → Held ns len a → 512 < len → Held (markAll ns ps) len a
+pub marked-full : {ns : List Node} {len : ℕ} {a : List ℕ} (ps : List (Option Pair)) → Held ns len a → mostIdentifiers < len → Held (markAll ns ps) len a
 marked-full {ns} ps p h = held-long (markAll ns ps) p h (omega (arith, length-marks ps ns))
 
 pub empty-listed : (l : List ℕ) {n : ℕ} {a : List ℕ} → Listed l n a → eqb n 0 ≡ empty l
@@ -125,7 +126,7 @@ empty-listed (x ∷ l) {n = n} (listed b e q) = ne-eqb n 0 (λ z. omega (arith, 
 empty-listed [] (tooLong b e) = absurd (omega arith)
 empty-listed (x ∷ l) {n = n} (tooLong b e) = ne-eqb n 0 (λ z. omega (arith, e, z))
 
-module _ (rs : List Rec) (t : List Node) {old len : ℕ} {a z : List ℕ} {every : Bool} (s : Since rs t old) (h : Held t len a) (few : len ≤ 512)
+module _ (rs : List Rec) (t : List Node) {old len : ℕ} {a z : List ℕ} {every : Bool} (s : Since rs t old) (h : Held t len a) (few : len ≤ mostIdentifiers)
     (m : Held (markAll t (newPairs rs t old (len - old))) len z × (every ≡ all (closedAt rs t) (upFrom (len - old) old))) where
   abbrev u : List Node
   u = markAll t (pairs rs t (leaves t))
@@ -136,14 +137,14 @@ module _ (rs : List Rec) (t : List Node) {old len : ℕ} {a z : List ℕ} {every
   marked : Held u len z
   marked = held-as u (ap (λ (n : ℕ). markAll t (newPairs rs t old (n - old))) (sym size) ∙ since-marks rs t old s) (m .0)
 
-  pub checked-still : len ≤ old → Held u len z × (len ≤ 512 → false ≡ all isPair (pairs rs t (leaves t)))
+  pub checked-still : len ≤ old → Held u len z × (len ≤ mostIdentifiers → false ≡ all isPair (pairs rs t (leaves t)))
   checked-still l = (marked, λ _. sym (s .still (omega (arith, size, l))))
 
-  pub checked-open : every ≡ false → Held u len z × (len ≤ 512 → false ≡ all isPair (pairs rs t (leaves t)))
+  pub checked-open : every ≡ false → Held u len z × (len ≤ mostIdentifiers → false ≡ all isPair (pairs rs t (leaves t)))
   checked-open e = (marked, λ _. sym (open-new rs t (s .over .treed) (len - old) old (sym (m .1) ∙ e)))
 
-  pub checked-closed : {r : Bool} → ((ns : List Node) → Treed ns → length ns ≡ len → len ≤ 512 → z ≡ lay ns → r ≡ empty (filter (takes ns 0) (leaves ns))) →
-      Held u len z × (len ≤ 512 → r ≡ all isPair (pairs rs t (leaves t)))
+  pub checked-closed : {r : Bool} → ((ns : List Node) → Treed ns → length ns ≡ len → len ≤ mostIdentifiers → z ≡ lay ns → r ≡ empty (filter (takes ns 0) (leaves ns))) →
+      Held u len z × (len ≤ mostIdentifiers → r ≡ all isPair (pairs rs t (leaves t)))
   checked-closed f =
       let ok = held-ok marked few in
       let small : length t ≤ nobody = omega (arith, size, few) in

@@ -9,6 +9,7 @@ use native.Mathlib.Omega.{arith}
 use lib.Dec.{eqb}
 use borrow.Author.Tests.{eqb-true}
 use lib.ListN.{length, drop, List·getD-eq-default}
+use Rattle.definition.specs.Limits.{mostIdentifiers}
 use Rattle.definition.specs.Lists.{find, orElse, empty}
 use Rattle.definition.specs.Records.{Rec, nobody, isNobody, formulaOf}
 use Rattle.definition.specs.Tree.{Node, nodeAt, upward, path}
@@ -37,7 +38,7 @@ unfolding upward
 up-node t d e x up z q h u = rw (z, ← q, h, u) refl
 
 -- what is above x
-up-tail : (t : List Node) (d x : ℕ) → length t ≤ 512 → drop 1 (upward d t x) ≡ upward (d - 1) t (nodeAt t x .parent)
+up-tail : (t : List Node) (d x : ℕ) → length t ≤ mostIdentifiers → drop 1 (upward d t x) ≡ upward (d - 1) t (nodeAt t x .parent)
 unfolding upward
 up-tail t zero x h = refl
 up-tail t (suc d) x h = ⊎-elim (λ e. none-above e) (λ e. rw e (ap (λ (k : ℕ). upward k t (nodeAt t x .parent)) same)) (either (isNobody x))
@@ -91,7 +92,7 @@ module _ (rs : List Rec) (t : List Node) (x : ℕ) where
   pub record Seeking (len cur last k : ℕ) : Type 0 where
     pub rest : orElse (find against (reverse (upward (len - k) t cur))) (known last) ≡ partner rs t x
 
-  pub seeking-start : (len cur last k : ℕ) → length t ≡ len → len ≤ 512 → cur ≡ nodeAt t x .parent → last ≡ nobody → k ≡ 1 → Seeking len cur last k
+  pub seeking-start : (len cur last k : ℕ) → length t ≡ len → len ≤ mostIdentifiers → cur ≡ nodeAt t x .parent → last ≡ nobody → k ≡ 1 → Seeking len cur last k
   unfolding partner earlier path
   seeking-start len cur last k e h c l one =
       record {

@@ -2,6 +2,9 @@
 // A tree that was checked when it had fewer nodes is searched at the leaves that are new, and there from the new nodes alone.
 // Of a call whose arrays lay out nothing of the kind that its contract names: it ends and stays in bounds; its outcome is free.
 use graph::PossibleWorld;
+use limits::Formulas;
+use limits::MOST_IDENTIFIERS;
+use limits::Nodes;
 use semantics::Claim;
 use semantics::claim_of;
 use semantics::contradicts;
@@ -21,6 +24,7 @@ ghost use mathlib.Core.List.{List};
 ghost use mathlib.Core.Option.{Option·map};
 ghost use Prim.Native.Nat.{ℕ, _≤_, _-_};
 ghost use lib.ListN.{length};
+ghost use Rattle.definition.specs.Limits.{mostIdentifiers, mostFormulas};
 ghost use Rattle.definition.specs.Lists.{all, filter, empty, upFrom};
 ghost use Rattle.definition.specs.Records.{Rec, formulaOf};
 ghost use Rattle.definition.specs.Tree.{Node, nodeAt, leaves};
@@ -60,13 +64,13 @@ fn is_pair(c: Contradiction) -> bool
 fn are_nodes_contradictory(
     c: Claim,
     world: PossibleWorld,
-    formulas: &[u16; 5120],
+    formulas: &Formulas,
     count: usize,
-    tree: &[u16; 4608],
+    tree: &Nodes,
     y: ProofTreeNodeID,
 ) -> bool
     ensures { λ r. ⌜ ((rs : List Rec) (ns : List Node) (x : ℕ) → Claims rs (formulaOf rs (nodeAt ns x .formula)) c → world .0 ≡ nodeAt ns x .world
-        → Recorded rs count (now (formulas .entry)) → count ≤ 1280 → length ns ≤ 512 → now (tree .entry) ≡ lay ns → r ≡ areNodesContradictory rs ns x (y .0)) ⌝ }
+        → Recorded rs count (now (formulas .entry)) → count ≤ mostFormulas → length ns ≤ mostIdentifiers → now (tree .entry) ≡ lay ns → r ≡ areNodesContradictory rs ns x (y .0)) ⌝ }
 {
     if world.is(world_of(tree, y)) {
         return contradicts(c, formulas, count, formula_of(tree, y));
@@ -100,13 +104,13 @@ fn pair_with(x: ProofTreeNodeID, y: ProofTreeNodeID) -> Contradiction
 // Of the nodes above x, the first from the root that contradicts it: the last that is met on the way up.
 fn find_above(
     c: Claim,
-    formulas: &[u16; 5120],
+    formulas: &Formulas,
     count: usize,
-    tree: &[u16; 4608],
+    tree: &Nodes,
     len: usize,
     x: ProofTreeNodeID,
 ) -> Contradiction
-    ensures { λ r. ⌜ ((rs : List Rec) (ns : List Node) → Claims rs (formulaOf rs (nodeAt ns (x .0) .formula)) c → Recorded rs count (now (formulas .entry)) → count ≤ 1280 → length ns ≡ len → len ≤ 512 → now (tree .entry) ≡ lay ns
+    ensures { λ r. ⌜ ((rs : List Rec) (ns : List Node) → Claims rs (formulaOf rs (nodeAt ns (x .0) .formula)) c → Recorded rs count (now (formulas .entry)) → count ≤ mostFormulas → length ns ≡ len → len ≤ mostIdentifiers → now (tree .entry) ≡ lay ns
         → found r ≡ Option·map (pair (x .0)) (partner rs ns (x .0))) ⌝ }
 {
     let world = world_of(tree, x);
@@ -127,13 +131,13 @@ fn find_above(
 
 // x and the first node from the root that contradicts it. A formula that says and denies nothing needs no search.
 fn find_earlier(
-    formulas: &[u16; 5120],
+    formulas: &Formulas,
     count: usize,
-    tree: &[u16; 4608],
+    tree: &Nodes,
     len: usize,
     x: ProofTreeNodeID,
 ) -> Contradiction
-    ensures { λ r. ⌜ ((rs : List Rec) (ns : List Node) → Recorded rs count (now (formulas .entry)) → count ≤ 1280 → length ns ≡ len → len ≤ 512 → now (tree .entry) ≡ lay ns
+    ensures { λ r. ⌜ ((rs : List Rec) (ns : List Node) → Recorded rs count (now (formulas .entry)) → count ≤ mostFormulas → length ns ≡ len → len ≤ mostIdentifiers → now (tree .entry) ≡ lay ns
         → found r ≡ Option·map (pair (x .0)) (partner rs ns (x .0))) ⌝ }
 {
     let c = claim_of(formulas, count, formula_of(tree, x));
@@ -145,14 +149,14 @@ fn find_earlier(
 
 // The pair of the path of a new leaf: from the leaf upward, as long as the nodes are new.
 fn get_contradictory_node_ids(
-    formulas: &[u16; 5120],
+    formulas: &Formulas,
     count: usize,
-    tree: &[u16; 4608],
+    tree: &Nodes,
     len: usize,
     old: usize,
     leaf: ProofTreeNodeID,
 ) -> Contradiction
-    ensures { λ r. ⌜ ((rs : List Rec) (ns : List Node) → Recorded rs count (now (formulas .entry)) → count ≤ 1280 → length ns ≡ len → len ≤ 512 → now (tree .entry) ≡ lay ns
+    ensures { λ r. ⌜ ((rs : List Rec) (ns : List Node) → Recorded rs count (now (formulas .entry)) → count ≤ mostFormulas → length ns ≡ len → len ≤ mostIdentifiers → now (tree .entry) ≡ lay ns
         → Above rs ns old → In (spots ns) (leaf .0) → old ≤ leaf .0 → found r ≡ pairOf rs ns (leaf .0)) ⌝ }
 {
     let mut cur = leaf;
@@ -175,7 +179,7 @@ fn get_contradictory_node_ids(
 }
 
 // The later node of a pair is marked against the earlier.
-fn mark_pair(tree: &mut [u16; 4608], len: usize, c: Contradiction)
+fn mark_pair(tree: &mut Nodes, len: usize, c: Contradiction)
     ensures { λ r. ⌜ ((ns : List Node) → Held ns len (now (tree .entry)) → Held (mark ns (found c)) len (now (tree .exit))) ⌝ }
 {
     match c {
@@ -188,14 +192,14 @@ fn mark_pair(tree: &mut [u16; 4608], len: usize, c: Contradiction)
 
 // Marks the pair of the path of x, if x is a leaf; whether it is none or has a pair.
 fn mark_path(
-    formulas: &[u16; 5120],
+    formulas: &Formulas,
     count: usize,
-    tree: &mut [u16; 4608],
+    tree: &mut Nodes,
     len: usize,
     old: usize,
     x: ProofTreeNodeID,
 ) -> bool
-    ensures { λ r. ⌜ ((rs : List Rec) (ns : List Node) → Recorded rs count (now (formulas .entry)) → count ≤ 1280 → Held ns len (now (tree .entry)) → len ≤ 512 → Above rs ns old → old ≤ x .0
+    ensures { λ r. ⌜ ((rs : List Rec) (ns : List Node) → Recorded rs count (now (formulas .entry)) → count ≤ mostFormulas → Held ns len (now (tree .entry)) → len ≤ mostIdentifiers → Above rs ns old → old ≤ x .0
         → Held (mark ns (pairAt rs ns (x .0))) len (now (tree .exit)) × (r ≡ closedAt rs ns (x .0))) ⌝ }
 {
     if place_of(tree, x) == 65535 {
@@ -216,20 +220,14 @@ fn and(a: bool, b: bool) -> bool
 }
 
 // Marks path by path, by the new leaves; whether each has a pair.
-fn mark_paths(
-    formulas: &[u16; 5120],
-    count: usize,
-    tree: &mut [u16; 4608],
-    len: usize,
-    old: usize,
-) -> bool
-    ensures { λ r. ⌜ ((rs : List Rec) (ns : List Node) → Recorded rs count (now (formulas .entry)) → count ≤ 1280 → Held ns len (now (tree .entry)) → len ≤ 512 → Above rs ns old
+fn mark_paths(formulas: &Formulas, count: usize, tree: &mut Nodes, len: usize, old: usize) -> bool
+    ensures { λ r. ⌜ ((rs : List Rec) (ns : List Node) → Recorded rs count (now (formulas .entry)) → count ≤ mostFormulas → Held ns len (now (tree .entry)) → len ≤ mostIdentifiers → Above rs ns old
         → Held (markAll ns (newPairs rs ns old (len - old))) len (now (tree .exit)) × (r ≡ all (closedAt rs ns) (upFrom (len - old) old))) ⌝ }
 {
     let mut every = true;
     let mut k = old;
     while k < len {
-        if 512 <= k {
+        if MOST_IDENTIFIERS <= k {
             return every;
         }
         let x = id_at(k);
@@ -241,10 +239,10 @@ fn mark_paths(
 }
 
 // No path is without a contradictory node.
-fn is_closed(tree: &[u16; 4608], len: usize) -> bool
-    ensures { λ r. ⌜ ((ns : List Node) → Treed ns → length ns ≡ len → len ≤ 512 → now (tree .entry) ≡ lay ns → r ≡ empty (filter (takes ns 0) (leaves ns))) ⌝ }
+fn is_closed(tree: &Nodes, len: usize) -> bool
+    ensures { λ r. ⌜ ((ns : List Node) → Treed ns → length ns ≡ len → len ≤ mostIdentifiers → now (tree .entry) ≡ lay ns → r ≡ empty (filter (takes ns 0) (leaves ns))) ⌝ }
 {
-    let mut open = [0u16; 512];
+    let mut open = [0u16; MOST_IDENTIFIERS];
     let root = ProofTreeNodeID::ROOT;
     takers(tree, len, root, &mut open) == 0
 }
@@ -252,16 +250,16 @@ fn is_closed(tree: &[u16; 4608], len: usize) -> bool
 // Marks the pair of each path; whether every path has one. Nothing is marked where there are more than 512 nodes.
 // The tree was checked when it had `old` nodes; it was not proved then, so without a new node it is not now.
 pub fn check_for_contradictions(
-    formulas: &[u16; 5120],
+    formulas: &Formulas,
     count: usize,
-    tree: &mut [u16; 4608],
+    tree: &mut Nodes,
     len: usize,
     old: usize,
 ) -> bool
-    ensures { λ r. ⌜ ((rs : List Rec) (ns : List Node) → Recorded rs count (now (formulas .entry)) → count ≤ 1280 → Held ns len (now (tree .entry)) → (len ≤ 512 → Since rs ns old)
-        → Held (markAll ns (pairs rs ns (leaves ns))) len (now (tree .exit)) × (len ≤ 512 → r ≡ all isPair (pairs rs ns (leaves ns)))) ⌝ }
+    ensures { λ r. ⌜ ((rs : List Rec) (ns : List Node) → Recorded rs count (now (formulas .entry)) → count ≤ mostFormulas → Held ns len (now (tree .entry)) → (len ≤ mostIdentifiers → Since rs ns old)
+        → Held (markAll ns (pairs rs ns (leaves ns))) len (now (tree .exit)) × (len ≤ mostIdentifiers → r ≡ all isPair (pairs rs ns (leaves ns)))) ⌝ }
 {
-    if 512 < len {
+    if MOST_IDENTIFIERS < len {
         return false;
     }
     let every = mark_paths(formulas, count, tree, len, old);

@@ -6,6 +6,7 @@ use native.Mathlib.Omega.{arith}
 use mathlib.Core.Logic.{⊎-elim}
 use borrow.Author.Tests.{eq-eqb, ne-eqb}
 use lib.ListN.{length, getD, List·getD-eq-default}
+use Rattle.definition.specs.Limits.{mostFormulas}
 use Rattle.definition.specs.Records.{Kind, Atomic, Non, And, Or, Imply, BiImply, StrictImply, Possible, Necessary, Unknown, Comment, Rec, made, numberOf, kindOf, recAt, formulaOf}
 use Rattle.definition.proofs.Lists.{alike}
 use Rattle.definition.specs.Queue.{priorities, prioritiesOfNon, priorityOf}
@@ -46,7 +47,7 @@ formula-record rs f h = rw (ne-eqb f 65535 h) refl
 
 -- what is said alike of a comment and of a record that is not there can be read from the number's record
 pub formula-as : {A : Type 0} {rs : List Rec} {n : ℕ} {a : List ℕ} (g : Rec → A) → g (made Comment 0 0) ≡ g missing
-    → Recorded rs n a → n ≤ 1280 → (f : ℕ) → g (formulaOf rs f) ≡ g (recAt rs f)
+    → Recorded rs n a → n ≤ mostFormulas → (f : ℕ) → g (formulaOf rs f) ≡ g (recAt rs f)
 unfolding formulaOf
 formula-as {A} {rs} g e p h f =
     ⊎-elim
@@ -88,7 +89,7 @@ unfolding priorityBy
 inner-rest k i z a b d = rw (eq-eqb k 1 z) (inner-first i a b d)
 
 -- the class by kinds is the class by records
-pub class-of : {rs : List Rec} {n : ℕ} {a : List ℕ} (f k l i v : ℕ) → Recorded rs n a → n ≤ 1280
+pub class-of : {rs : List Rec} {n : ℕ} {a : List ℕ} (f k l i v : ℕ) → Recorded rs n a → n ≤ mostFormulas
     → k ≡ numberOf (formulaOf rs f .kind) → l ≡ recAt rs f .left → i ≡ numberOf (recAt rs l .kind) → v ≡ priorityBy k i → v ≡ priorityOf rs (formulaOf rs f)
 unfolding priorityBy priorityOf numberOf
 class-of {rs} f k l i v p h dk dl di dv =

@@ -4,27 +4,29 @@ use mathlib.Core.Path.{_≡_, refl, sym, ap, _∙_}
 use mathlib.Core.List.{List, [], _∷_, _++_}
 use native.Mathlib.Omega.{arith}
 use lib.ListN.{length, getD, set, replicate, length-append, List·getD-eq-default}
+use Rattle.definition.specs.Limits.{mostFormulas}
+use Rattle.limits.specs.Arrays.{formulaFields, formulaCells}
 use Rattle.arrays.specs.Data.{pad}
 use Rattle.arrays.proofs.Laws.{getD-pad, sets-pad}
 use Rattle.definition.specs.Records.{Rec, numberOf, kindOf, recAt}
 use Rattle.formula.specs.Recorded.{column, missing, flat, row, Recorded, recorded, tooMany}
 
 -- ---- rows
-first : (j : ℕ) (r : Rec) (rs : List Rec) → j < 4 → getD (flat (r ∷ rs)) j 0 ≡ column j r
+first : (j : ℕ) (r : Rec) (rs : List Rec) → j < formulaFields → getD (flat (r ∷ rs)) j 0 ≡ column j r
 first zero r rs h = refl
 first (suc zero) r rs h = refl
 first (suc (suc zero)) r rs h = refl
 first (suc (suc (suc zero))) r rs h = refl
 first (suc (suc (suc (suc j)))) r rs h = absurd (omega arith)
 
-flat-read : (rs : List Rec) (i j : ℕ) → i < length rs → j < 4 → getD (flat rs) (i * 4 + j) 0 ≡ column j (getD rs i missing)
+flat-read : (rs : List Rec) (i j : ℕ) → i < length rs → j < formulaFields → getD (flat rs) (i * formulaFields + j) 0 ≡ column j (getD rs i missing)
 flat-read [] i j g h = absurd (omega arith)
-flat-read (r ∷ rs) zero j g h = let z : 0 * 4 + j ≡ j = omega arith in ap (λ (k : ℕ). getD (flat (r ∷ rs)) k 0) z ∙ first j r rs h
+flat-read (r ∷ rs) zero j g h = let z : 0 * formulaFields + j ≡ j = omega arith in ap (λ (k : ℕ). getD (flat (r ∷ rs)) k 0) z ∙ first j r rs h
 flat-read (r ∷ rs) (suc i) j g h =
-    let z : suc i * 4 + j ≡ suc (suc (suc (suc (i * 4 + j)))) = omega arith in
+    let z : suc i * formulaFields + j ≡ suc (suc (suc (suc (i * formulaFields + j)))) = omega arith in
     ap (λ (k : ℕ). getD (flat (r ∷ rs)) k 0) z ∙ flat-read rs i j (omega arith) h
 
-flat-length : (rs : List Rec) → length (flat rs) ≡ length rs * 4
+flat-length : (rs : List Rec) → length (flat rs) ≡ length rs * formulaFields
 flat-length [] = refl
 flat-length (r ∷ rs) = omega (arith, flat-length rs)
 
@@ -34,16 +36,16 @@ flat-snoc (r ∷ rs) x = ap (λ (l : List ℕ). numberOf (r .kind) ∷ r .mark �
 
 -- ---- the relation
 -- the table of no record
-pub recorded-none : Recorded [] 0 (replicate 5120 0)
+pub recorded-none : Recorded [] 0 (replicate formulaCells 0)
 unfolding pad
 recorded-none = recorded (omega arith) refl refl
 
 -- the count is within the array if and only if the records are
-pub recorded-count : {rs : List Rec} {n : ℕ} {a : List ℕ} → Recorded rs n a → n ≤ 1280 → length rs ≡ n
+pub recorded-count : {rs : List Rec} {n : ℕ} {a : List ℕ} → Recorded rs n a → n ≤ mostFormulas → length rs ≡ n
 recorded-count (recorded b e q) h = e
 recorded-count (tooMany b e) h = absurd (omega arith)
 
-pub recorded-fits : {rs : List Rec} {n : ℕ} {a : List ℕ} → Recorded rs n a → length rs ≤ 1280 → n ≤ 1280
+pub recorded-fits : {rs : List Rec} {n : ℕ} {a : List ℕ} → Recorded rs n a → length rs ≤ mostFormulas → n ≤ mostFormulas
 recorded-fits (recorded b e q) h = b
 recorded-fits (tooMany b e) h = absurd (omega arith)
 
@@ -52,28 +54,28 @@ pub recAt-far : (rs : List Rec) (i : ℕ) → length rs ≤ i → recAt rs i ≡
 unfolding recAt
 recAt-far rs i h = List·getD-eq-default rs missing h
 
-pub read-far : {rs : List Rec} {n : ℕ} {a : List ℕ} (i j none : ℕ) → Recorded rs n a → n ≤ 1280 → n ≤ i → column j missing ≡ none → none ≡ column j (recAt rs i)
+pub read-far : {rs : List Rec} {n : ℕ} {a : List ℕ} (i j none : ℕ) → Recorded rs n a → n ≤ mostFormulas → n ≤ i → column j missing ≡ none → none ≡ column j (recAt rs i)
 read-far {rs} i j none p h g e = sym e ∙ ap (column j) (sym (recAt-far rs i (omega (arith, recorded-count p h))))
 
-pub read-at : {rs : List Rec} {n : ℕ} {a : List ℕ} (i j : ℕ) → Recorded rs n a → n ≤ 1280 → i < n → j < 4 → getD a (i * 4 + j) 0 ≡ column j (recAt rs i)
+pub read-at : {rs : List Rec} {n : ℕ} {a : List ℕ} (i j : ℕ) → Recorded rs n a → n ≤ mostFormulas → i < n → j < formulaFields → getD a (i * formulaFields + j) 0 ≡ column j (recAt rs i)
 unfolding recAt
 read-at {rs} {n} {a} i j (recorded b e q) h g l =
-    ap (λ (m : List ℕ). getD m (i * 4 + j) 0) q ∙ getD-pad 5120 (flat rs) (i * 4 + j) ∙ flat-read rs i j (omega arith) l
+    ap (λ (m : List ℕ). getD m (i * formulaFields + j) 0) q ∙ getD-pad formulaCells (flat rs) (i * formulaFields + j) ∙ flat-read rs i j (omega arith) l
 read-at i j (tooMany b e) h g l = absurd (omega arith)
 
 -- ---- pushes
-pub push-over : {rs : List Rec} {n : ℕ} {a b : List ℕ} (x : Rec) → Recorded rs n a → 1280 ≤ n → Recorded (rs ++ (x ∷ [])) 1281 b
+pub push-over : {rs : List Rec} {n : ℕ} {a b : List ℕ} (x : Rec) → Recorded rs n a → mostFormulas ≤ n → Recorded (rs ++ (x ∷ [])) (suc mostFormulas) b
 push-over {rs} x (recorded b e q) h = tooMany (omega arith) (omega (arith, length-append rs (x ∷ [])))
 push-over {rs} x (tooMany b e) h = tooMany (omega arith) (omega (arith, length-append rs (x ∷ [])))
 
-pub push-at : {rs : List Rec} {n : ℕ} {a : List ℕ} (k m l r v : ℕ) → v ≡ numberOf (kindOf k) → Recorded rs n a → n < 1280
-    → Recorded (rs ++ (row k m l r ∷ [])) (n + 1) (set (set (set (set a (n * 4) v) (n * 4 + 1) m) (n * 4 + 2) l) (n * 4 + 3) r)
+pub push-at : {rs : List Rec} {n : ℕ} {a : List ℕ} (k m l r v : ℕ) → v ≡ numberOf (kindOf k) → Recorded rs n a → n < mostFormulas
+    → Recorded (rs ++ (row k m l r ∷ [])) (n + 1) (set (set (set (set a (n * formulaFields) v) (n * formulaFields + 1) m) (n * formulaFields + 2) l) (n * formulaFields + 3) r)
 push-at {rs} {n} {a} k m l r v d (recorded b e q) h =
     let x = row k m l r in
-    let g : length (flat rs) ≡ n * 4 = flat-length rs ∙ ap (λ (k : ℕ). k * 4) e in
-    let e1 : n * 4 + 1 ≡ suc (n * 4) = omega arith in
-    let e2 : n * 4 + 2 ≡ suc (suc (n * 4)) = omega arith in
-    let e3 : n * 4 + 3 ≡ suc (suc (suc (n * 4))) = omega arith in
+    let g : length (flat rs) ≡ n * formulaFields = flat-length rs ∙ ap (λ (k : ℕ). k * formulaFields) e in
+    let e1 : n * formulaFields + 1 ≡ suc (n * formulaFields) = omega arith in
+    let e2 : n * formulaFields + 2 ≡ suc (suc (n * formulaFields)) = omega arith in
+    let e3 : n * formulaFields + 3 ≡ suc (suc (suc (n * formulaFields))) = omega arith in
     recorded (omega arith) (omega (arith, length-append rs (x ∷ [])))
-    (rw (d, q, e1, e2, e3, ← g, flat-snoc) (sets-pad 5120 (flat (x ∷ [])) (flat rs) (omega arith)))
+    (rw (d, q, e1, e2, e3, ← g, flat-snoc) (sets-pad formulaCells (flat (x ∷ [])) (flat rs) (omega arith)))
 push-at k m l r v d (tooMany b e) h = absurd (omega arith)

@@ -3,6 +3,8 @@ use Prim.Native.Nat.{ℕ, zero, suc, _≤_, _<_}
 use mathlib.Core.Path.{_≡_}
 use mathlib.Core.List.{List, [], _∷_}
 use lib.ListN.{length}
+use Rattle.definition.specs.Limits.{mostFormulas}
+use Rattle.limits.specs.Arrays.{formulaCells}
 use Rattle.arrays.specs.Data.{pad}
 use Rattle.definition.specs.Records.{Rec, Unknown, made, numberOf, kindOf}
 
@@ -24,8 +26,8 @@ flat (r ∷ rs) = numberOf (r .kind) ∷ r .mark ∷ r .left ∷ r .right ∷ fl
 
 -- the array holds the records, and count is how many; a count above 1,280 says that there are too many, and nothing of the array
 pub data Recorded (rs : List Rec) (count : ℕ) (a : List ℕ) : Type 0 where
-  recorded : count ≤ 1280 → length rs ≡ count → a ≡ pad 5120 (flat rs) → Recorded rs count a
-  tooMany : 1280 < count → 1280 < length rs → Recorded rs count a
+  recorded : count ≤ mostFormulas → length rs ≡ count → a ≡ pad formulaCells (flat rs) → Recorded rs count a
+  tooMany : mostFormulas < count → mostFormulas < length rs → Recorded rs count a
 
 -- the record with this kind number and these fields; a number above 8 is no kind of the table
 abbrev pub row : ℕ → ℕ → ℕ → ℕ → Rec

@@ -1,8 +1,14 @@
 // Formulas as numbered records, four numbers to a record (kind, mark, left, right), in one lent array.
 // Of a call whose arrays lay out nothing of the kind that its contract names: it ends and stays in bounds; its outcome is free.
+use limits::FORMULA_FIELDS;
+use limits::Formulas;
+use limits::MOST_FORMULAS;
+use limits::TOO_MANY_FORMULAS;
 ghost use mathlib.Core.Path.{_≡_};
 ghost use mathlib.Core.List.{List, [], _∷_, _++_};
 ghost use Prim.Native.Nat.{_≤_, _<_};
+ghost use Rattle.definition.specs.Limits.{mostFormulas};
+ghost use Rattle.limits.specs.Arrays.{formulaFields};
 ghost use Rattle.definition.specs.Records.{nobody, Rec, Non, Imply, Possible, Necessary, made, numberOf, kindOf, recAt, formulaOf};
 ghost use Rattle.definition.specs.Queue.{priorityOf};
 ghost use Rattle.formula.specs.Priority.{priorityBy};
@@ -13,59 +19,59 @@ pub struct FormulaNumber(pub u16);
 
 // The number of the next record that is made; 65535 where there are too many.
 pub fn next_formula(count: usize) -> FormulaNumber
-    ensures { λ r. ⌜ (count ≤ 1280 → r .0 ≡ count) × (1280 < count → r .0 ≡ nobody) ⌝ }
+    ensures { λ r. ⌜ (count ≤ mostFormulas → r .0 ≡ count) × (mostFormulas < count → r .0 ≡ nobody) ⌝ }
 {
-    if 1280 < count {
+    if MOST_FORMULAS < count {
         return FormulaNumber(65535);
     }
     FormulaNumber(count as u16)
 }
 
 // Field j of record f; `none` is what a record that is not there has.
-fn field(formulas: &[u16; 5120], count: usize, f: FormulaNumber, j: usize, none: u16) -> u16
-    ensures { λ r. ⌜ ((rs : List Rec) → Recorded rs count (now (formulas .entry)) → count ≤ 1280 → j < 4 → column j missing ≡ none → r ≡ column j (recAt rs (f .0))) ⌝ }
+fn field(formulas: &Formulas, count: usize, f: FormulaNumber, j: usize, none: u16) -> u16
+    ensures { λ r. ⌜ ((rs : List Rec) → Recorded rs count (now (formulas .entry)) → count ≤ mostFormulas → j < formulaFields → column j missing ≡ none → r ≡ column j (recAt rs (f .0))) ⌝ }
 {
     let i = f.0 as usize;
     if count <= i {
         return none;
     }
-    if 1280 <= i {
+    if MOST_FORMULAS <= i {
         return none;
     }
-    if 4 <= j {
+    if FORMULA_FIELDS <= j {
         return none;
     }
-    formulas[i * 4 + j]
+    formulas[i * FORMULA_FIELDS + j]
 }
 
 // The kind's number; 9 where there is no such record.
-pub fn kind_at(formulas: &[u16; 5120], count: usize, f: FormulaNumber) -> u16
-    ensures { λ r. ⌜ ((rs : List Rec) → Recorded rs count (now (formulas .entry)) → count ≤ 1280 → r ≡ numberOf (recAt rs (f .0) .kind)) ⌝ }
+pub fn kind_at(formulas: &Formulas, count: usize, f: FormulaNumber) -> u16
+    ensures { λ r. ⌜ ((rs : List Rec) → Recorded rs count (now (formulas .entry)) → count ≤ mostFormulas → r ≡ numberOf (recAt rs (f .0) .kind)) ⌝ }
 {
     field(formulas, count, f, 0, 9)
 }
 
-pub fn mark_at(formulas: &[u16; 5120], count: usize, f: FormulaNumber) -> u16
-    ensures { λ r. ⌜ ((rs : List Rec) → Recorded rs count (now (formulas .entry)) → count ≤ 1280 → r ≡ recAt rs (f .0) .mark) ⌝ }
+pub fn mark_at(formulas: &Formulas, count: usize, f: FormulaNumber) -> u16
+    ensures { λ r. ⌜ ((rs : List Rec) → Recorded rs count (now (formulas .entry)) → count ≤ mostFormulas → r ≡ recAt rs (f .0) .mark) ⌝ }
 {
     field(formulas, count, f, 1, 0)
 }
 
-pub fn left_at(formulas: &[u16; 5120], count: usize, f: FormulaNumber) -> FormulaNumber
-    ensures { λ r. ⌜ ((rs : List Rec) → Recorded rs count (now (formulas .entry)) → count ≤ 1280 → r .0 ≡ recAt rs (f .0) .left) ⌝ }
+pub fn left_at(formulas: &Formulas, count: usize, f: FormulaNumber) -> FormulaNumber
+    ensures { λ r. ⌜ ((rs : List Rec) → Recorded rs count (now (formulas .entry)) → count ≤ mostFormulas → r .0 ≡ recAt rs (f .0) .left) ⌝ }
 {
     FormulaNumber(field(formulas, count, f, 2, 0))
 }
 
-pub fn right_at(formulas: &[u16; 5120], count: usize, f: FormulaNumber) -> FormulaNumber
-    ensures { λ r. ⌜ ((rs : List Rec) → Recorded rs count (now (formulas .entry)) → count ≤ 1280 → r .0 ≡ recAt rs (f .0) .right) ⌝ }
+pub fn right_at(formulas: &Formulas, count: usize, f: FormulaNumber) -> FormulaNumber
+    ensures { λ r. ⌜ ((rs : List Rec) → Recorded rs count (now (formulas .entry)) → count ≤ mostFormulas → r .0 ≡ recAt rs (f .0) .right) ⌝ }
 {
     FormulaNumber(field(formulas, count, f, 3, 0))
 }
 
 // The kind's number of a node's formula; 10 for a comment.
-pub fn formula_kind(formulas: &[u16; 5120], count: usize, f: FormulaNumber) -> u16
-    ensures { λ r. ⌜ ((rs : List Rec) → Recorded rs count (now (formulas .entry)) → count ≤ 1280 → r ≡ numberOf (formulaOf rs (f .0) .kind)) ⌝ }
+pub fn formula_kind(formulas: &Formulas, count: usize, f: FormulaNumber) -> u16
+    ensures { λ r. ⌜ ((rs : List Rec) → Recorded rs count (now (formulas .entry)) → count ≤ mostFormulas → r ≡ numberOf (formulaOf rs (f .0) .kind)) ⌝ }
 {
     if f.0 == 65535 {
         return 10;
@@ -85,7 +91,7 @@ fn known_kind(kind: u16) -> u16
 
 // One record more, whose number is the old count; 1281 where there is no room.
 pub fn push_input(
-    formulas: &mut [u16; 5120],
+    formulas: &mut Formulas,
     count: usize,
     kind: u16,
     mark: u16,
@@ -94,11 +100,11 @@ pub fn push_input(
 ) -> usize
     ensures { λ r. ⌜ ((rs : List Rec) → Recorded rs count (now (formulas .entry)) → Recorded (rs ++ (row kind mark left right ∷ [])) r (now (formulas .exit))) ⌝ }
 {
-    if 1280 <= count {
-        return 1281;
+    if MOST_FORMULAS <= count {
+        return TOO_MANY_FORMULAS;
     }
     let k = known_kind(kind);
-    let at = count * 4;
+    let at = count * FORMULA_FIELDS;
     formulas[at] = k;
     formulas[at + 1] = mark;
     formulas[at + 2] = left;
@@ -108,7 +114,7 @@ pub fn push_input(
 
 // One record more that a rule makes.
 fn push_record(
-    formulas: &mut [u16; 5120],
+    formulas: &mut Formulas,
     count: usize,
     kind: u16,
     left: FormulaNumber,
@@ -119,25 +125,25 @@ fn push_record(
     push_input(formulas, count, kind, 0, left.0, right.0)
 }
 
-pub fn non(formulas: &mut [u16; 5120], count: usize, p: FormulaNumber) -> usize
+pub fn non(formulas: &mut Formulas, count: usize, p: FormulaNumber) -> usize
     ensures { λ r. ⌜ ((rs : List Rec) → Recorded rs count (now (formulas .entry)) → Recorded (rs ++ (made Non (p .0) 0 ∷ [])) r (now (formulas .exit))) ⌝ }
 {
     push_record(formulas, count, 1, p, FormulaNumber(0))
 }
 
-pub fn imply(formulas: &mut [u16; 5120], count: usize, p: FormulaNumber, q: FormulaNumber) -> usize
+pub fn imply(formulas: &mut Formulas, count: usize, p: FormulaNumber, q: FormulaNumber) -> usize
     ensures { λ r. ⌜ ((rs : List Rec) → Recorded rs count (now (formulas .entry)) → Recorded (rs ++ (made Imply (p .0) (q .0) ∷ [])) r (now (formulas .exit))) ⌝ }
 {
     push_record(formulas, count, 4, p, q)
 }
 
-pub fn possible(formulas: &mut [u16; 5120], count: usize, p: FormulaNumber) -> usize
+pub fn possible(formulas: &mut Formulas, count: usize, p: FormulaNumber) -> usize
     ensures { λ r. ⌜ ((rs : List Rec) → Recorded rs count (now (formulas .entry)) → Recorded (rs ++ (made Possible (p .0) 0 ∷ [])) r (now (formulas .exit))) ⌝ }
 {
     push_record(formulas, count, 7, p, FormulaNumber(0))
 }
 
-pub fn necessary(formulas: &mut [u16; 5120], count: usize, p: FormulaNumber) -> usize
+pub fn necessary(formulas: &mut Formulas, count: usize, p: FormulaNumber) -> usize
     ensures { λ r. ⌜ ((rs : List Rec) → Recorded rs count (now (formulas .entry)) → Recorded (rs ++ (made Necessary (p .0) 0 ∷ [])) r (now (formulas .exit))) ⌝ }
 {
     push_record(formulas, count, 8, p, FormulaNumber(0))
@@ -163,8 +169,8 @@ fn priority_by(outer: u16, inner: u16) -> u16
 }
 
 // The class of a node's formula.
-pub fn priority_of(formulas: &[u16; 5120], count: usize, f: FormulaNumber) -> u16
-    ensures { λ r. ⌜ ((rs : List Rec) → Recorded rs count (now (formulas .entry)) → count ≤ 1280 → r ≡ priorityOf rs (formulaOf rs (f .0))) ⌝ }
+pub fn priority_of(formulas: &Formulas, count: usize, f: FormulaNumber) -> u16
+    ensures { λ r. ⌜ ((rs : List Rec) → Recorded rs count (now (formulas .entry)) → count ≤ mostFormulas → r ≡ priorityOf rs (formulaOf rs (f .0))) ⌝ }
 {
     let outer = formula_kind(formulas, count, f);
     let inner = kind_at(formulas, count, left_at(formulas, count, f));

@@ -8,6 +8,8 @@ use native.Mathlib.Omega.{arith}
 use lib.Dec.{ltb, eqb}
 use lib.ListN.{getD, replicate, length-replicate, getD-replicate}
 use borrow.Author.Tests.{ltb-true, eqb-true, lt-ltb, le-ltb}
+use Rattle.definition.specs.Limits.{graphWidth}
+use Rattle.limits.specs.Arrays.{edgeCells}
 use Rattle.definition.specs.Lists.{any, upFrom, below}
 use Rattle.definition.specs.Graph.{Graph, edge, graphOf, emptyGraph, addMissingReflexiveVertices, addMissingSymmetricVertices, paired, addMissingTransitiveVertices}
 use Rattle.definition.proofs.Lists.{true-false, and-left, and-right, or-cases, either, any-below}
@@ -17,14 +19,14 @@ use Rattle.graph.proofs.Grid.{edge-of, grid-cell, grid-by, grid-same}
 use Rattle.graph.proofs.Scan.{any-false}
 
 -- no world, and an array of zeros
-pub drawn-none : Drawn emptyGraph 0 (replicate 625 0)
+pub drawn-none : Drawn emptyGraph 0 (replicate edgeCells 0)
 unfolding emptyGraph edge
 drawn-none =
     record {
       count = refl;
       room = omega arith;
       inside = λ u v h. true-false (sym h);
-      cells = grid-by (replicate 625 0) (edge emptyGraph) (length-replicate {A = ℕ} 625 0) (λ k h. getD-replicate 625 k 0 0 h);
+      cells = grid-by (replicate edgeCells 0) (edge emptyGraph) (length-replicate {A = ℕ} edgeCells 0) (λ k h. getD-replicate edgeCells k 0 0 h);
     }
 
 -- the edges that each scan adds
@@ -46,8 +48,8 @@ module _ {g : Graph} {n : ℕ} {a : List ℕ} (d : Drawn g n a) where
   drawn-out u v h =
       ⊎-elim (λ t. let i = d .inside u v t in absurd (⊎-elim (λ k. omega (arith, i .0)) (λ k. omega (arith, i .1)) h)) (λ t. t) (either (edge g u v))
 
-  pub drawn-cell : (u v : ℕ) → u < 25 → v < 25 → eqb (getD a (u * 25 + v) 0) 1 ≡ edge g u v
-  drawn-cell u v hu hv = ap (λ (l : List ℕ). eqb (getD l (u * 25 + v) 0) 1) (d .cells) ∙ rw (grid-cell (edge g) u v hu hv) (go (edge g u v))
+  pub drawn-cell : (u v : ℕ) → u < graphWidth → v < graphWidth → eqb (getD a (u * graphWidth + v) 0) 1 ≡ edge g u v
+  drawn-cell u v hu hv = ap (λ (l : List ℕ). eqb (getD l (u * graphWidth + v) 0) 1) (d .cells) ∙ rw (grid-cell (edge g) u v hu hv) (go (edge g u v))
     where
       go : (b : Bool) → eqb (flag b) 1 ≡ b
       go true = refl
@@ -85,7 +87,7 @@ within u v n false h = go (ltb u n) (ltb v n)
     go false y = refl
 
 -- the graph of n worlds with the edges e, from the array of those that run between its worlds
-pub drawn-graph : (n m : ℕ) (e f : ℕ → ℕ → Bool) {a : List ℕ} → n ≡ m → n ≤ 25 → ((u v : ℕ) → f u v ≡ (ltb u n && (ltb v n && e u v))) → a ≡ grid f → Drawn (graphOf m e) n a
+pub drawn-graph : (n m : ℕ) (e f : ℕ → ℕ → Bool) {a : List ℕ} → n ≡ m → n ≤ graphWidth → ((u v : ℕ) → f u v ≡ (ltb u n && (ltb v n && e u v))) → a ≡ grid f → Drawn (graphOf m e) n a
 unfolding graphOf
 drawn-graph n m e f c h k q =
     record {

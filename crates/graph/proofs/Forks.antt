@@ -7,6 +7,7 @@ use mathlib.Core.List.{List}
 use native.Mathlib.Omega.{arith}
 use lib.Dec.{ltb, leb, eqb}
 use borrow.Author.Tests.{leb-true, leb-false, eqb-true, le-ltb, eq-eqb, ne-eqb}
+use Rattle.definition.specs.Limits.{graphWidth}
 use Rattle.definition.specs.Flags.{Flags}
 use Rattle.definition.specs.Graph.{Graph, edge, graphOf, addMissingReflexiveVertices, addMissingSymmetricVertices, addMissingTransitiveVertices, addMissingGraphVertices, initializeGraphIfNeeded, fork}
 use Rattle.definition.proofs.Lists.{true-false, and-left, and-right, or-cases, either}
@@ -72,7 +73,7 @@ module _ (F : Flags) {g : Graph} {n : ℕ} {a : List ℕ} (d : Drawn g n a) wher
       outside true q false false t h = refl
       outside false q e s t h = refl
 
-  pub fork-made : (u : ℕ) {f : ℕ} {b c : List ℕ} → f ≡ min n 65535 → n < 25 → ((e : ℕ → ℕ → Bool) → a ≡ grid e → b ≡ grid (cond (leb u f) (withVertex e u f) e)) →
+  pub fork-made : (u : ℕ) {f : ℕ} {b c : List ℕ} → f ≡ min n 65535 → n < graphWidth → ((e : ℕ → ℕ → Bool) → a ≡ grid e → b ≡ grid (cond (leb u f) (withVertex e u f) e)) →
       ((h : Graph) → Drawn h (n + 1) b → Drawn (addMissingGraphVertices F h) (n + 1) c) → Drawn (fork F g u) (n + 1) c
   unfolding fork
   fork-made u {f} m k put fill =

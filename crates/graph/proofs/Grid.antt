@@ -9,6 +9,8 @@ use lib.Dec.{ltb, eqb, leb·suc-suc}
 use lib.ListN.{length, getD, set, length-map, length-set}
 use lib.Seq.{ext-getD, getD-set-same, getD-set-other}
 use borrow.Author.Tests.{eqb-true, eqb-false, lt-ltb, le-ltb, eq-eqb}
+use Rattle.definition.specs.Limits.{graphWidth}
+use Rattle.limits.specs.Arrays.{edgeCells}
 use Rattle.definition.specs.Lists.{upFrom, below}
 use Rattle.definition.specs.Graph.{edge, graphOf}
 use Rattle.definition.proofs.Lists.{either}
@@ -34,26 +36,26 @@ edge-of n e u v = ap (λ (r : List Bool). getD r v false) (at-from (λ a. map (�
     go true = at-from (e u) n 0 v v false (omega arith) ∙ pick (ltb v n)
     go false = refl
 
-pub grid-length : (e : ℕ → ℕ → Bool) → length (grid e) ≡ 625
+pub grid-length : (e : ℕ → ℕ → Bool) → length (grid e) ≡ edgeCells
 unfolding grid
-grid-length e = length-map (below 625) (λ k. flag (e (k / 25) (k % 25))) ∙ length-from 625 0
+grid-length e = length-map (below edgeCells) (λ k. flag (e (k / graphWidth) (k % graphWidth))) ∙ length-from edgeCells 0
 
-pub grid-at : (e : ℕ → ℕ → Bool) (k : ℕ) → k < 625 → getD (grid e) k 0 ≡ flag (e (k / 25) (k % 25))
+pub grid-at : (e : ℕ → ℕ → Bool) (k : ℕ) → k < edgeCells → getD (grid e) k 0 ≡ flag (e (k / graphWidth) (k % graphWidth))
 unfolding grid
-grid-at e k h = at-from (λ j. flag (e (j / 25) (j % 25))) 625 0 k k 0 (omega arith) ∙ rw (lt-ltb k 625 h)
+grid-at e k h = at-from (λ j. flag (e (j / graphWidth) (j % graphWidth))) edgeCells 0 k k 0 (omega arith) ∙ rw (lt-ltb k edgeCells h)
 
-pub grid-cell : (e : ℕ → ℕ → Bool) (u v : ℕ) → u < 25 → v < 25 → getD (grid e) (u * 25 + v) 0 ≡ flag (e u v)
+pub grid-cell : (e : ℕ → ℕ → Bool) (u v : ℕ) → u < graphWidth → v < graphWidth → getD (grid e) (u * graphWidth + v) 0 ≡ flag (e u v)
 grid-cell e u v hu hv =
-    let p : (u * 25 + v) / 25 ≡ u = omega arith in
-    let q : (u * 25 + v) % 25 ≡ v = omega arith in
-    grid-at e (u * 25 + v) (omega arith) ∙ rw (p, q)
+    let p : (u * graphWidth + v) / graphWidth ≡ u = omega arith in
+    let q : (u * graphWidth + v) % graphWidth ≡ v = omega arith in
+    grid-at e (u * graphWidth + v) (omega arith) ∙ rw (p, q)
 
 -- an array that has these edges' flag at each place is their array
-pub grid-by : (a : List ℕ) (e : ℕ → ℕ → Bool) → length a ≡ 625 → ((k : ℕ) → k < 625 → getD a k 0 ≡ flag (e (k / 25) (k % 25))) → a ≡ grid e
-grid-by a e l h = ext-getD 0 a (grid e) (l ∙ sym (grid-length e)) (λ k b. let m : k < 625 = omega arith in h k m ∙ sym (grid-at e k m))
+pub grid-by : (a : List ℕ) (e : ℕ → ℕ → Bool) → length a ≡ edgeCells → ((k : ℕ) → k < edgeCells → getD a k 0 ≡ flag (e (k / graphWidth) (k % graphWidth))) → a ≡ grid e
+grid-by a e l h = ext-getD 0 a (grid e) (l ∙ sym (grid-length e)) (λ k b. let m : k < edgeCells = omega arith in h k m ∙ sym (grid-at e k m))
 
-pub grid-same : (e f : ℕ → ℕ → Bool) → ((u v : ℕ) → u < 25 → v < 25 → e u v ≡ f u v) → grid e ≡ grid f
-grid-same e f h = grid-by (grid e) f (grid-length e) (λ k b. grid-at e k b ∙ ap flag (h (k / 25) (k % 25) (omega arith) (omega arith)))
+pub grid-same : (e f : ℕ → ℕ → Bool) → ((u v : ℕ) → u < graphWidth → v < graphWidth → e u v ≡ f u v) → grid e ≡ grid f
+grid-same e f h = grid-by (grid e) f (grid-length e) (λ k b. grid-at e k b ∙ ap flag (h (k / graphWidth) (k % graphWidth) (omega arith) (omega arith)))
 
 -- ---- one edge more
 pub with-hit : (e : ℕ → ℕ → Bool) (u v a b : ℕ) → a ≡ u → b ≡ v → withVertex e u v a b ≡ true
@@ -74,18 +76,18 @@ with-miss e u v a b h = go (e a b) (eqb a u) (eqb b v) (λ p q. h (eqb-true a u 
     go false true false n = refl
     go false false z n = refl
 
-pub grid-set : {a : List ℕ} (e : ℕ → ℕ → Bool) (u v : ℕ) → a ≡ grid e → u < 25 → v < 25 → set a (u * 25 + v) 1 ≡ grid (withVertex e u v)
+pub grid-set : {a : List ℕ} (e : ℕ → ℕ → Bool) (u v : ℕ) → a ≡ grid e → u < graphWidth → v < graphWidth → set a (u * graphWidth + v) 1 ≡ grid (withVertex e u v)
 grid-set e u v q hu hv =
-    let i = u * 25 + v in
+    let i = u * graphWidth + v in
     rw q (grid-by (set (grid e) i 1) (withVertex e u v) (length-set (grid e) i 1 ∙ grid-length e) (λ k b.
     ⊎-elim
     (λ t. let s : k ≡ i = eqb-true k i t in
     ap (λ (j : ℕ). getD (set (grid e) i 1) j 0) s ∙ getD-set-same (grid e) i 1 0 (omega (arith, grid-length e))
-    ∙ sym (ap flag (with-hit e u v (k / 25) (k % 25) (omega arith) (omega arith))))
+    ∙ sym (ap flag (with-hit e u v (k / graphWidth) (k % graphWidth) (omega arith) (omega arith))))
     (λ t. getD-set-other (grid e) i k 1 0 (eqb-false k i t) ∙ grid-at e k b
-    ∙ sym (ap flag (with-miss e u v (k / 25) (k % 25) (λ s r. eqb-false k i t (omega arith)))))
+    ∙ sym (ap flag (with-miss e u v (k / graphWidth) (k % graphWidth) (λ s r. eqb-false k i t (omega arith)))))
     (either (eqb k i))))
 
-pub grid-out : (e : ℕ → ℕ → Bool) (u v : ℕ) → (25 ≤ u) ⊎ (25 ≤ v) → grid e ≡ grid (withVertex e u v)
+pub grid-out : (e : ℕ → ℕ → Bool) (u v : ℕ) → (graphWidth ≤ u) ⊎ (graphWidth ≤ v) → grid e ≡ grid (withVertex e u v)
 grid-out e u v h =
     grid-same e (withVertex e u v) (λ a b ha hb. sym (with-miss e u v a b (λ p q. ⊎-elim (λ k. omega arith) (λ k. omega arith) h)))

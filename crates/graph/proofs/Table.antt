@@ -5,19 +5,21 @@ use Prim.Native.Nat.{ℕ, _+_, _*_, _/_, _%_, _<_}
 use native.Mathlib.Omega.{arith}
 use lib.ListN.{getD}
 use borrow.Author.Tests.{lt-ltb}
+use Rattle.definition.specs.Limits.{graphWidth}
+use Rattle.limits.specs.Arrays.{edgeCells}
 use Rattle.definition.specs.Lists.{below}
 use Rattle.graph.proofs.Grid.{at-from}
 
 -- the first world times 32, plus the second
 abbrev code : ℕ → ℕ
-code k = k / 25 * 32 + k % 25
+code k = k / graphWidth * 32 + k % graphWidth
 
 -- the pairs of worlds in rising order
 unfoldable pub table : List ℕ
-table = map code (below 625)
+table = map code (below edgeCells)
 
-pub vertex-rule : (k : ℕ) → k < 625 → (getD table k 0 / 32 ≡ k / 25) × (getD table k 0 % 32 ≡ k % 25)
+pub vertex-rule : (k : ℕ) → k < edgeCells → (getD table k 0 / 32 ≡ k / graphWidth) × (getD table k 0 % 32 ≡ k % graphWidth)
 unfolding table
 vertex-rule k h =
-    let e : getD table k 0 ≡ k / 25 * 32 + k % 25 = at-from code 625 0 k k 0 (omega arith) ∙ rw (lt-ltb k 625 h) in
+    let e : getD table k 0 ≡ k / graphWidth * 32 + k % graphWidth = at-from code edgeCells 0 k k 0 (omega arith) ∙ rw (lt-ltb k edgeCells h) in
     (rw e (omega arith), rw e (omega arith))

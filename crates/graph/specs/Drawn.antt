@@ -4,6 +4,8 @@ use mathlib.Core.Path.{_≡_}
 use mathlib.Core.Bool.{Bool, true, false, _&&_, _||_}
 use mathlib.Core.List.{List, map}
 use lib.Dec.{eqb}
+use Rattle.definition.specs.Limits.{graphWidth}
+use Rattle.limits.specs.Arrays.{edgeCells}
 use Rattle.definition.specs.Lists.{below}
 use Rattle.definition.specs.Graph.{Graph, edge}
 
@@ -13,7 +15,7 @@ flag false = 0
 
 -- the array of these edges, as far as they run between worlds below 25
 unfoldable pub grid : (ℕ → ℕ → Bool) → List ℕ
-grid e = map (λ k. flag (e (k / 25) (k % 25))) (below 625)
+grid e = map (λ k. flag (e (k / graphWidth) (k % graphWidth))) (below edgeCells)
 
 -- these edges, and the one from u to v
 unfoldable pub withVertex : (ℕ → ℕ → Bool) → ℕ → ℕ → ℕ → ℕ → Bool
@@ -22,6 +24,6 @@ withVertex e u v a b = e a b || (eqb a u && eqb b v)
 -- a graph of at most 25 worlds, between which its edges run, with the count of its worlds and its array
 pub record Drawn (g : Graph) (n : ℕ) (a : List ℕ) : Type 0 where
   pub count : n ≡ g .worlds
-  pub room : n ≤ 25
+  pub room : n ≤ graphWidth
   pub inside : (u v : ℕ) → edge g u v ≡ true → (u < n) × (v < n)
   pub cells : a ≡ grid (edge g)

@@ -3,6 +3,8 @@
 mod missing_vertices;
 pub mod vertices;
 
+use limits::Edges;
+use limits::GRAPH_WIDTH;
 use missing_vertices::add_missing_reflexive_vertices;
 use missing_vertices::add_missing_symmetric_vertices;
 use missing_vertices::add_missing_transitive_vertices;
@@ -11,6 +13,7 @@ ghost use mathlib.Core.Path.{_≡_};
 ghost use mathlib.Core.Bool.{Bool};
 ghost use Prim.Native.Nat.{ℕ, suc, min, _<_, _≤_};
 ghost use lib.Dec.{eqb};
+ghost use Rattle.definition.specs.Limits.{graphWidth};
 ghost use Rattle.definition.specs.Flags.{Flags};
 ghost use Rattle.definition.specs.Graph.{Graph, edge, addMissingGraphVertices, initializeGraphIfNeeded, fork};
 ghost use Rattle.graph.specs.Drawn.{grid, withVertex, Drawn};
@@ -46,33 +49,33 @@ pub struct GraphVertex {
 }
 
 // Whether u reaches v.
-pub fn contains(edges: &[u8; 625], u: PossibleWorld, v: PossibleWorld) -> bool
+pub fn contains(edges: &Edges, u: PossibleWorld, v: PossibleWorld) -> bool
     ensures { λ r. ⌜ ((g : Graph) (n : ℕ) → Drawn g n (now (edges .entry)) → r ≡ edge g (u .0) (v .0)) ⌝ }
 {
     let from = u.0 as usize;
     let to = v.0 as usize;
-    if 25 <= from {
+    if GRAPH_WIDTH <= from {
         return false;
     }
-    if 25 <= to {
+    if GRAPH_WIDTH <= to {
         return false;
     }
-    edges[from * 25 + to] == 1
+    edges[from * GRAPH_WIDTH + to] == 1
 }
 
 // One edge more, where both worlds have a place.
-fn add_vertex(edges: &mut [u8; 625], u: PossibleWorld, v: PossibleWorld)
+fn add_vertex(edges: &mut Edges, u: PossibleWorld, v: PossibleWorld)
     ensures { λ r. ⌜ ((e : ℕ → ℕ → Bool) → now (edges .entry) ≡ grid e → now (edges .exit) ≡ grid (withVertex e (u .0) (v .0))) ⌝ }
 {
     let from = u.0 as usize;
     let to = v.0 as usize;
-    if 25 <= from {
+    if GRAPH_WIDTH <= from {
         return;
     }
-    if 25 <= to {
+    if GRAPH_WIDTH <= to {
         return;
     }
-    edges[from * 25 + to] = 1;
+    edges[from * GRAPH_WIDTH + to] = 1;
 }
 
 // What the flags say of the graph.
@@ -83,7 +86,7 @@ pub struct NormalModalLogic {
 }
 
 // The missing edges of a graph of so many worlds: reflexive, symmetric, transitive, each if flagged.
-fn add_missing_graph_vertices(edges: &mut [u8; 625], worlds: usize, logic: NormalModalLogic)
+fn add_missing_graph_vertices(edges: &mut Edges, worlds: usize, logic: NormalModalLogic)
     ensures { λ r. ⌜ ((F : Flags) (g : Graph) → logic ≡ logicOf F → Drawn g worlds (now (edges .entry)) → Drawn (addMissingGraphVertices F g) worlds (now (edges .exit))) ⌝ }
 {
     if logic.is_reflexive {
@@ -99,7 +102,7 @@ fn add_missing_graph_vertices(edges: &mut [u8; 625], worlds: usize, logic: Norma
 
 // Puts world 0 in an empty graph. The count of worlds.
 pub fn initialize_graph_if_needed(
-    edges: &mut [u8; 625],
+    edges: &mut Edges,
     worlds: usize,
     logic: NormalModalLogic,
 ) -> usize
@@ -127,15 +130,15 @@ pub fn forked_world(worlds: usize) -> PossibleWorld
 
 // A new world, which u reaches, while there is room for one. The count of worlds.
 pub fn fork_world(
-    edges: &mut [u8; 625],
+    edges: &mut Edges,
     worlds: usize,
     u: PossibleWorld,
     logic: NormalModalLogic,
 ) -> usize
-    ensures { λ r. ⌜ ((F : Flags) (g : Graph) → logic ≡ logicOf F → worlds < 25 → Drawn g worlds (now (edges .entry)) → Drawn (fork F g (u .0)) r (now (edges .exit)))
-        × (25 ≤ worlds → (r ≡ worlds) × (now (edges .exit) ≡ now (edges .entry))) ⌝ }
+    ensures { λ r. ⌜ ((F : Flags) (g : Graph) → logic ≡ logicOf F → worlds < graphWidth → Drawn g worlds (now (edges .entry)) → Drawn (fork F g (u .0)) r (now (edges .exit)))
+        × (graphWidth ≤ worlds → (r ≡ worlds) × (now (edges .exit) ≡ now (edges .entry))) ⌝ }
 {
-    if 25 <= worlds {
+    if GRAPH_WIDTH <= worlds {
         return worlds;
     }
     let forked = forked_world(worlds);

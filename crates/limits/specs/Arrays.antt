@@ -34,13 +34,9 @@ itemFields = 3
 abbrev pub itemCells : ℕ
 itemCells = mostIdentifiers * itemFields
 
--- the bits of a word
-abbrev pub wordBits : ℕ
-wordBits = 32
-
--- the words that hold a bit for each identifier
+-- the words, of 32 bits each, that hold a bit for each identifier
 abbrev pub rowWords : ℕ
-rowWords = mostIdentifiers / wordBits
+rowWords = mostIdentifiers / 32
 
 -- a bit for each necessity and identifier
 abbrev pub leafCount : ℕ

@@ -25,6 +25,9 @@ pub const NODE_LENGTH: usize = 12;
 
 pub const MOST_FORMULAS: usize = MOST_RECORDS + 2 * MOST_IDENTIFIERS;
 
+// A count that says: more formulas than there is room for.
+pub const TOO_MANY_FORMULAS: usize = MOST_FORMULAS + 1;
+
 pub const NODE_TRAY_LENGTH: usize = NODE_LENGTH * MOST_IDENTIFIERS;
 
 pub const FORMULA_TRAY_LENGTH: usize = RECORD_LENGTH * MOST_FORMULAS;
@@ -49,9 +52,7 @@ pub const ITEM_FIELDS: usize = 3;
 
 pub const ITEM_CELLS: usize = MOST_IDENTIFIERS * ITEM_FIELDS;
 
-pub const WORD_BITS: usize = 32;
-
-pub const ROW_WORDS: usize = MOST_IDENTIFIERS / WORD_BITS;
+pub const ROW_WORDS: usize = MOST_IDENTIFIERS / 32;
 
 pub const LEAF_COUNT: usize = MOST_IDENTIFIERS * MOST_IDENTIFIERS;
 

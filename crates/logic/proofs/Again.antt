@@ -6,6 +6,7 @@ use mathlib.Core.List.{List, [], _∷_, _++_, map, reverse, append-nil, append-a
 use native.Mathlib.Omega.{arith}
 use lib.ListN.{length, getD, set, drop, length-append, drop-of-length-le}
 use lib.Seq.{drop-cons}
+use Rattle.definition.specs.Limits.{mostIdentifiers}
 use Rattle.definition.specs.Lists.{Each}
 use Rattle.definition.specs.Graph.{Graph}
 use Rattle.definition.specs.Tree.{Node}
@@ -62,22 +63,22 @@ module _ (t : List Node) (g : Graph) (fk : Fork) where
     pub held : Held (t ++ more) (r .nodes) ta
     pub nodes : (t ++ more) ++ left more (drop i ns) .nodes ≡ goal
     pub items : done ++ left more (drop i ns) .subtrees ≡ subtrees
-    pub rows : r .nodes ≤ 512 → Listing rs done (r .items) (r .nodes) ia
-    pub stack : r .nodes ≤ 512 → Stack (mapped after i ns) c oa ra la va
+    pub rows : r .nodes ≤ mostIdentifiers → Listing rs done (r .items) (r .nodes) ia
+    pub stack : r .nodes ≤ mostIdentifiers → Stack (mapped after i ns) c oa ra la va
 
   pub again-start : (more : List Node) (ns : List Necessity) (rs : List Row) {c : ℕ} (r : Given) {ta ia oa ra la va : List ℕ} → Stack ns c oa ra la va → Held (t ++ more) (r .nodes) ta →
-      (r .nodes ≤ 512 → Listing rs [] (r .items) (r .nodes) ia) → Again ns ((t ++ more) ++ left more ns .nodes) rs (left more ns .subtrees) c 0 r ta ia oa ra la va
+      (r .nodes ≤ mostIdentifiers → Listing rs [] (r .items) (r .nodes) ia) → Again ns ((t ++ more) ++ left more ns .nodes) rs (left more ns .subtrees) c 0 r ta ia oa ra la va
   unfolding mapped
   again-start more ns rs r s h l = record { more = more; done = []; held = h; nodes = refl; items = refl; rows = l; stack = λ _. s }
 
   module _ {ns : List Necessity} {goal : List Node} {rs : List Row} {subtrees : List Targeted} {c i : ℕ} {r : Given} {ta ia oa ra la va : List ℕ} (z : Again ns goal rs subtrees c i r ta ia oa ra la va) where
     -- full
-    pub again-full : 512 < r .nodes → Held goal (r .nodes) ta
+    pub again-full : mostIdentifiers < r .nodes → Held goal (r .nodes) ta
     again-full big = held-long goal (z .held) big (omega (arith, ap length (z .nodes), length-append (t ++ z .more) (left (z .more) (drop i ns) .nodes)))
 
-    pub again-next : (none : Necessity) → i < length ns → (small : r .nodes ≤ 512) {r′ : Given} {tb ib vb : List ℕ} → let m = mapped after i ns in
+    pub again-next : (none : Necessity) → i < length ns → (small : r .nodes ≤ mostIdentifiers) {r′ : Given} {tb ib vb : List ℕ} → let m = mapped after i ns in
         Gave (t ++ z .more) (z .rows small .all) (reapplyIfOnPath t g fk (length (t ++ z .more)) (getD m i none)) r′ tb ib →
-        (r′ .nodes ≤ 512 → Stack (set m i (after (getD m i none))) c oa ra la vb) → Again ns goal rs subtrees c (i + 1) r′ tb ib oa ra la vb
+        (r′ .nodes ≤ mostIdentifiers → Stack (set m i (after (getD m i none))) c oa ra la vb) → Again ns goal rs subtrees c (i + 1) r′ tb ib oa ra la vb
     unfolding reapplyNecessityAfterPossibility
     again-next none low small {r′} {tb} {ib} {vb} gave stack =
         let o : suc i ≡ i + 1 = omega arith in
@@ -105,7 +106,7 @@ module _ (t : List Node) (g : Graph) (fk : Fork) where
               subst (λ (l : List Necessity). Stack l c oa ra la vb) (ap (λ (k : Necessity). set (mapped after i ns) i (after k)) e ∙ mapped-set after i ns none low ∙ ap (λ (k : ℕ). mapped after k ns) o) (stack fits);
         }
 
-    pub again-end : c ≤ i → length ns ≡ c → i ≤ c → Held goal (r .nodes) ta × (r .nodes ≤ 512 → Listing rs subtrees (r .items) (r .nodes) ia) × (r .nodes ≤ 512 → Stack (map after ns) c oa ra la va)
+    pub again-end : c ≤ i → length ns ≡ c → i ≤ c → Held goal (r .nodes) ta × (r .nodes ≤ mostIdentifiers → Listing rs subtrees (r .items) (r .nodes) ia) × (r .nodes ≤ mostIdentifiers → Stack (map after ns) c oa ra la va)
     unfolding reapplyNecessityAfterPossibility
     again-end past count low =
         let b : length ns ≤ i = omega (arith, past, count) in

@@ -6,6 +6,8 @@ use mathlib.Core.Option.{some}
 use mathlib.Core.Logic.{_⊎_, inl, inr}
 use native.Mathlib.Omega.{arith}
 use lib.ListN.{length, replicate, length-append}
+use Rattle.definition.specs.Limits.{mostIdentifiers, graphWidth}
+use Rattle.limits.specs.Arrays.{necessityCells}
 use Rattle.arrays.specs.Listed.{Listed}
 use Rattle.arrays.proofs.Listed.{listed-fits}
 use Rattle.definition.specs.Lists.{Each}
@@ -54,17 +56,17 @@ two-nodes ns a b h = held-as (ns ++ (a ∷ b ∷ [])) (append-assoc ns (a ∷ []
 abbrev pub forkItem : ℕ → ℕ → Targeted
 forkItem x base = record { target = x; subtree = withMiddle (suc base ∷ base ∷ []) }
 
-pub fork-full : {ns : List Node} {len n : ℕ} {a w : List ℕ} (q : List ℕ) (rs : List Targeted) → 512 < len → Held ns len a → Left (appendLogicRuleResult ns q rs) (record { nodes = len; waiting = n }) a w
+pub fork-full : {ns : List Node} {len n : ℕ} {a w : List ℕ} (q : List ℕ) (rs : List Targeted) → mostIdentifiers < len → Held ns len a → Left (appendLogicRuleResult ns q rs) (record { nodes = len; waiting = n }) a w
 fork-full {ns} q rs big h = record { nodes = held-long _ h big (ext-result rs ns q .longer); queue = λ small. absurd (omega (arith, small, big)) }
 
 pub left-as : {p g : Placed} {r : Counts} {a w : List ℕ} → p ≡ g → Left p r a w → Left g r a w
 left-as {p} {g} {r} {a} {w} e l = subst (λ (v : Placed). Left v r a w) e l
 
 pub fork-placed : (ns : List Node) (q : List ℕ) (more : List Targeted) (x base : ℕ) (s : ProofSubtree) {len n items : ℕ} {ta tb tc wa wb wc ia : List ℕ} {top r : Counts} →
-    (id : ℕ) → len ≤ 512 → Held ns len ta → Listed q n wa → (len ≤ 512 → id ≡ base) → base + 2 ≤ length ns → (len ≤ 512 → Listing [] more items len ia) → Steady ns q (forkItem x base ∷ more) →
+    (id : ℕ) → len ≤ mostIdentifiers → Held ns len ta → Listed q n wa → (len ≤ mostIdentifiers → id ≡ base) → base + 2 ≤ length ns → (len ≤ mostIdentifiers → Listing [] more items len ia) → Steady ns q (forkItem x base ∷ more) →
     (subtreeOf s ≡ withMiddle (suc id ∷ id ∷ [])) × ((m : ℕ) → id + 2 ≤ m → Within s m) →
-    ((ns : List Node) (q : List ℕ) (t : Subtree) → Held ns len ta → (len ≤ 512 → Listed q n wa) → (length ns ≤ 512 → Chained s t (length ns)) → (length ns ≤ 512 → Treed ns) → Left (appendSubtree ns q x t) top tb wb) →
-    ((ns : List Node) (q : List ℕ) (rs : List Row) → Held ns (top .nodes) tb → (top .nodes ≤ 512 → Listed q (top .waiting) wb) → (top .nodes ≤ 512 → Rows rs items ia (length ns)) →
+    ((ns : List Node) (q : List ℕ) (t : Subtree) → Held ns len ta → (len ≤ mostIdentifiers → Listed q n wa) → (length ns ≤ mostIdentifiers → Chained s t (length ns)) → (length ns ≤ mostIdentifiers → Treed ns) → Left (appendSubtree ns q x t) top tb wb) →
+    ((ns : List Node) (q : List ℕ) (rs : List Row) → Held ns (top .nodes) tb → (top .nodes ≤ mostIdentifiers → Listed q (top .waiting) wb) → (top .nodes ≤ mostIdentifiers → Rows rs items ia (length ns)) →
     Steady ns q (map itemFrom rs) → Left (appendLogicRuleResult ns q (map itemFrom rs)) r tc wc) →
     Left (appendLogicRuleResult ns q (forkItem x base ∷ more)) r tc wc
 unfolding appendLogicRuleResult
@@ -80,10 +82,10 @@ fork-placed ns q more x base s id small h l at low list st comment one rest =
     left-as (ap (λ (rs : List Targeted). appendLogicRuleResult (p .nodes) (p .waiting) rs) (put .are)) second
 
 -- the graph has room for one world more
-pub known-few : (F : Flags) (g : Graph) {n m : ℕ} {a b : List ℕ} → Drawn g n a → n < 25 → Drawn (initializeGraphIfNeeded F g) m b → m < 25
+pub known-few : (F : Flags) (g : Graph) {n m : ℕ} {a b : List ℕ} → Drawn g n a → n < graphWidth → Drawn (initializeGraphIfNeeded F g) m b → m < graphWidth
 known-few F g {n} {m} d few k = go (init-less F g)
   where
-    go : (g .worlds ≡ 0) ⊎ (initializeGraphIfNeeded F g .worlds ≡ g .worlds) → m < 25
+    go : (g .worlds ≡ 0) ⊎ (initializeGraphIfNeeded F g .worlds ≡ g .worlds) → m < graphWidth
     go (inl e) = omega (arith, init-one F g e, k .count)
     go (inr e) = omega (arith, e, k .count, d .count, few)
 
@@ -102,9 +104,9 @@ module _ (F : Flags) (s : State) (x : ℕ) (recs : List Rec) (f : ℕ) (q : List
 
   pub possibility-after : {made : Given} {r : Counts} {base id c n worlds : ℕ} {ta tb ea ra la va oa wa wb ia : List ℕ} → length (s .nodes) ≡ base →
       Gave (s .nodes ++ both) [] (reapplyNecessityAfterPossibility (s .nodes) forked forking (length (s .nodes ++ both)) (s .necessities)) made ta ia →
-      (made .nodes ≤ 512 → Stack (necessitiesAfterPossibility (s .nodes) forked forking (s .necessities)) c oa ra la va) → Drawn forked worlds ea → Listed q n wa → Treed (s .nodes) →
+      (made .nodes ≤ mostIdentifiers → Stack (necessitiesAfterPossibility (s .nodes) forked forking (s .necessities)) c oa ra la va) → Drawn forked worlds ea → Listed q n wa → Treed (s .nodes) →
       id ≡ idAt base →
-      ((ns : List Node) (q : List ℕ) (more : List Targeted) (k : ℕ) → Held ns (made .nodes) ta → Listed q n wa → (made .nodes ≤ 512 → id ≡ k) → k + 2 ≤ length ns → (made .nodes ≤ 512 → Listing [] more (made .items) (made .nodes) ia) →
+      ((ns : List Node) (q : List ℕ) (more : List Targeted) (k : ℕ) → Held ns (made .nodes) ta → Listed q n wa → (made .nodes ≤ mostIdentifiers → id ≡ k) → k + 2 ≤ length ns → (made .nodes ≤ mostIdentifiers → Listing [] more (made .items) (made .nodes) ia) →
       Steady ns q (forkItem x k ∷ more) →
       Left (appendLogicRuleResult ns q (forkItem x k ∷ more)) r tb wb) →
       After (record { nodes = r .nodes; waiting = r .waiting; worlds = worlds; necessities = c }) tb ea ra la va oa wb (applyPossibility F s x recs f) (placing s q (applyPossibility F s x recs f))
@@ -119,7 +121,7 @@ module _ (F : Flags) (s : State) (x : ℕ) (recs : List Rec) (f : ℕ) (q : List
       let h = held-as all assoc (got .nodes) in
       let low : base + 2 ≤ length all = omega (arith, e, two, ap length assoc, length-append (s .nodes ++ both) (R .nodes)) in
       let same : forkItem x base ∷ R .subtrees ≡ forkItem x n ∷ R .subtrees = ap (λ (k : ℕ). forkItem x k ∷ R .subtrees) (sym e) in
-      let at : made .nodes ≤ 512 → id ≡ base = λ small. drawn ∙ id-fits base (omega (arith, held-ok h small .0, small, low)) in
+      let at : made .nodes ≤ mostIdentifiers → id ≡ base = λ small. drawn ∙ id-fits base (omega (arith, held-ok h small .0, small, low)) in
       let p = place all q (R .subtrees) base h l at low (got .rows) (subst (Steady all q) (sym same) (rule-steady F s x recs (asPossible f) q tree)) in
       let out = left-as (ap (appendLogicRuleResult all q) same) p in
       record {
@@ -129,7 +131,7 @@ module _ (F : Flags) (s : State) (x : ℕ) (recs : List Rec) (f : ℕ) (q : List
             record { waiting = out .queue small; graph = d; necessities = stack made-small };
       }
 
-  pub forked-at : {v known : ℕ} {a : List ℕ} → v ≡ min known 65535 → Drawn g₀ known a → known < 25 → v ≡ forkedWorld g₀
+  pub forked-at : {v known : ℕ} {a : List ℕ} → v ≡ min known 65535 → Drawn g₀ known a → known < graphWidth → v ≡ forkedWorld g₀
   forked-at e d few = omega (arith, e, d .count, few)
 
   pub forked-drawn : {u n : ℕ} {a : List ℕ} → u ≡ nodeAt (s .nodes) x .world → Drawn (fork F g₀ u) n a → Drawn forked n a
@@ -141,17 +143,17 @@ module _ (F : Flags) (s : State) (x : ℕ) (recs : List Rec) (f : ℕ) (q : List
   pub forked-seen : {v : ℕ} (a : List ℕ) → v ≡ forkedWorld g₀ → Each (Seen (s .nodes) (some (record { node = x; world = v })) a) (leaves (s .nodes)) → Each (Seen (s .nodes) (some forking) a) (leaves (s .nodes))
   forked-seen a e h = subst (λ (w : ℕ). Each (Seen (s .nodes) (some (record { node = x; world = w })) a) (leaves (s .nodes))) e h
 
-pub listing-start : (len : ℕ) → Listing [] [] 0 len (replicate 1536 0)
+pub listing-start : (len : ℕ) → Listing [] [] 0 len (replicate necessityCells 0)
 listing-start len = record { all = []; rows = rows-none len; are = refl }
 
 -- the leaves of a tree whose nodes fit
-module _ (t : List Node) (r : Treed t) {base : ℕ} (count : length t ≡ base) (fits : base ≤ 512) where
-  pub all-leaves : {m : ℕ} {a : List ℕ} → Listed ([] ++ leavesBelow base t 0) m a → Listed (leaves t) m a × (m ≤ 512)
+module _ (t : List Node) (r : Treed t) {base : ℕ} (count : length t ≡ base) (fits : base ≤ mostIdentifiers) where
+  pub all-leaves : {m : ℕ} {a : List ℕ} → Listed ([] ++ leavesBelow base t 0) m a → Listed (leaves t) m a × (m ≤ mostIdentifiers)
   all-leaves l =
       let k = listed-as (leaves t) (leaves-as t base count) l in
       (k, listed-fits k (omega (arith, leaves-few t r, count, fits)))
 
-  pub leaves-low : Each (λ y. y < 512) (leaves t)
+  pub leaves-low : Each (λ y. y < mostIdentifiers) (leaves t)
   leaves-low = each-map (λ y (h : y < length t). omega (arith, h, count, fits)) (leaves t) (leaves-within t r)
 
 -- what a state before a rule gives

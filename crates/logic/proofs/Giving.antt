@@ -6,6 +6,7 @@ use mathlib.Core.Option.{Option}
 use native.Mathlib.Omega.{arith}
 use lib.ListN.{length, getD, drop, length-append, length-map, drop-of-length-le}
 use lib.Seq.{drop-cons}
+use Rattle.definition.specs.Limits.{mostIdentifiers}
 use Rattle.arrays.specs.Listed.{Listed}
 use Rattle.arrays.proofs.Listed.{listed-count}
 use Rattle.bits.specs.Bits.{bitOf}
@@ -39,16 +40,16 @@ module _ (t : List Node) (fk : Option Fork) (n : Necessity) (ws : List ℕ) wher
     pub held : Held (t ++ more) len a
     pub nodes : (t ++ more) ++ left more rest .nodes ≡ goal
     pub subtrees : done ++ left more rest .subtrees ≡ items
-    pub rows : len ≤ 512 → Listing rs done count len ia
+    pub rows : len ≤ mostIdentifiers → Listing rs done count len ia
 
-  pub giving-start : (more : List Node) (ls : List ℕ) (rs : List Row) {len count : ℕ} {a ia : List ℕ} → Held (t ++ more) len a → (len ≤ 512 → Listing rs [] count len ia) →
+  pub giving-start : (more : List Node) (ls : List ℕ) (rs : List Row) {len count : ℕ} {a ia : List ℕ} → Held (t ++ more) len a → (len ≤ mostIdentifiers → Listing rs [] count len ia) →
       Giving ls ((t ++ more) ++ left more ls .nodes) rs (left more ls .subtrees) len a count ia
   giving-start more ls rs h l = record { more = more; done = []; held = h; nodes = refl; subtrees = refl; rows = l }
 
   module _ {goal : List Node} {rs : List Row} {items : List Targeted} {len count : ℕ} {a ia : List ℕ} where
     pub giving-next : (leaf : ℕ) (rest : List ℕ) (g : Giving (leaf ∷ rest) goal rs items len a count ia) {len′ count′ : ℕ} {b ib : List ℕ} →
         Held ((t ++ g .more) ++ made leaf) len′ b →
-        ((rs′ : List Row) → Rows rs′ count ia len → len′ ≤ 512 → Listing rs′ (item leaf (len′ - len) len ∷ []) count′ len′ ib) →
+        ((rs′ : List Row) → Rows rs′ count ia len → len′ ≤ mostIdentifiers → Listing rs′ (item leaf (len′ - len) len ∷ []) count′ len′ ib) →
         Giving rest goal rs items len′ b count′ ib
     unfolding giveOn
     giving-next leaf rest g {len′} {count′} {b} {ib} h push =
@@ -79,7 +80,7 @@ module _ (t : List Node) (fk : Option Fork) (n : Necessity) (ws : List ℕ) wher
               (listing-as leaf size (sym at) next);
         }
 
-    pub giving-end : (g : Giving [] goal rs items len a count ia) → Held goal len a × (len ≤ 512 → Listing rs items count len ia)
+    pub giving-end : (g : Giving [] goal rs items len a count ia) → Held goal len a × (len ≤ mostIdentifiers → Listing rs items count len ia)
     unfolding giveOn
     giving-end g = (
       held-as goal (sym (append-nil (t ++ g .more)) ∙ g .nodes) (g .held),
@@ -98,10 +99,10 @@ module _ (t : List Node) (fk : Option Fork) (n : Necessity) (ws : List ℕ) wher
         }
 
     -- the path of entry j of the leaves
-    pub giving-entry : (ls : List ℕ) {j k leaf x f : ℕ} {l : List ℕ} → Listed ls k l → k ≤ 512 → j < k → leaf ≡ getD ls j 0 → n .spawner ≡ x → n .formula ≡ f →
+    pub giving-entry : (ls : List ℕ) {j k leaf x f : ℕ} {l : List ℕ} → Listed ls k l → k ≤ mostIdentifiers → j < k → leaf ≡ getD ls j 0 → n .spawner ≡ x → n .formula ≡ f →
         (g : Giving (drop j ls) goal rs items len a count ia) {len′ count′ : ℕ} {b ib : List ℕ} →
         (Held (t ++ g .more) len a → Held ((t ++ g .more) ++ map (newNode x f) (filter (occurs t fk (path t leaf)) ws)) len′ b) →
-        ((rs′ : List Row) → Rows rs′ count ia len → len′ ≤ 512 → Listing rs′ (item leaf (len′ - len) len ∷ []) count′ len′ ib) →
+        ((rs′ : List Row) → Rows rs′ count ia len → len′ ≤ mostIdentifiers → Listing rs′ (item leaf (len′ - len) len ∷ []) count′ len′ ib) →
         Giving (drop (j + 1) ls) goal rs items len′ b count′ ib
     unfolding giving-turn
     giving-entry ls {j} {k} {leaf} {x} {f} lk small up e p q g h push =
@@ -110,7 +111,7 @@ module _ (t : List Node) (fk : Option Fork) (n : Necessity) (ws : List ℕ) wher
         giving-next leaf (drop (j + 1) ls) (giving-turn (leaf ∷ drop (j + 1) ls) d g)
         (held-as ((t ++ g .more) ++ made leaf) (sym (ap₂ (λ (y z : ℕ). (t ++ g .more) ++ map (newNode y z) (here leaf)) p q)) (h (g .held))) push
 
-    pub giving-ends : (ls : List ℕ) {j k : ℕ} {l : List ℕ} → Listed ls k l → k ≤ 512 → k ≤ j → (g : Giving (drop j ls) goal rs items len a count ia) → Held goal len a × (len ≤ 512 → Listing rs items count len ia)
+    pub giving-ends : (ls : List ℕ) {j k : ℕ} {l : List ℕ} → Listed ls k l → k ≤ mostIdentifiers → k ≤ j → (g : Giving (drop j ls) goal rs items len a count ia) → Held goal len a × (len ≤ mostIdentifiers → Listing rs items count len ia)
     giving-ends ls {j} lk small past g =
         let b : length ls ≤ j = omega (arith, past, listed-count lk small) in
         giving-end (giving-turn [] (drop-of-length-le ls b) g)
@@ -129,13 +130,13 @@ module _ (t : List Node) (fk : Option Fork) (n : Necessity) where
       let one = listing-skip leaf l in
       listing-both (item leaf 0 next ∷ []) (giveOn t fk n [] (next + 0) ls .subtrees) one (nothing-listed ls (next + 0) (listing-self one))
 
-  pub nothing-given : (ls : List ℕ) (next : ℕ) {ms : List Node} {rs : List Row} (r : Given) {a ia : List ℕ} → Held ms (r .nodes) a → (r .nodes ≤ 512 → Listing rs [] (r .items) (r .nodes) ia) →
+  pub nothing-given : (ls : List ℕ) (next : ℕ) {ms : List Node} {rs : List Row} (r : Given) {a ia : List ℕ} → Held ms (r .nodes) a → (r .nodes ≤ mostIdentifiers → Listing rs [] (r .items) (r .nodes) ia) →
       Gave ms rs (giveOn t fk n [] next ls) r a ia
   nothing-given ls next {ms} r h l =
       record { nodes = held-as (ms ++ giveOn t fk n [] next ls .nodes) (sym (append-nil ms) ∙ ap (λ (v : List Node). ms ++ v) (sym (nothing-made ls next))) h; rows = λ small. nothing-listed ls next (l small) }
 
 -- the worlds that occur on the path of entry j
-pub seen-entry : (t : List Node) (fk : Option Fork) (ls a : List ℕ) (j leaf word : ℕ) → Each (Seen t fk a) ls → j < length ls → leaf ≡ getD ls j 0 → (leaf < 512 → word ≡ getD a leaf 0) →
+pub seen-entry : (t : List Node) (fk : Option Fork) (ls a : List ℕ) (j leaf word : ℕ) → Each (Seen t fk a) ls → j < length ls → leaf ≡ getD ls j 0 → (leaf < mostIdentifiers → word ≡ getD a leaf 0) →
     (v : ℕ) → v < 32 → bitOf word v ≡ occurs t fk (path t leaf) v
 seen-entry t fk ls a j leaf word seen low e has v h =
     let s = subst (Seen t fk a) (sym e) (each-get (Seen t fk a) ls 0 seen j (λ past. absurd (omega (arith, past, low)))) in

@@ -6,6 +6,7 @@ use mathlib.Core.List.{List, [], _∷_, _++_, map, append-nil}
 use mathlib.Core.Option.{none}
 use native.Mathlib.Omega.{arith}
 use lib.ListN.{length}
+use Rattle.definition.specs.Limits.{mostIdentifiers}
 use Rattle.arrays.specs.Listed.{Listed}
 use Rattle.arrays.proofs.Listed.{listed-fits}
 use Rattle.definition.specs.Lists.{Each, elem, filter}
@@ -37,8 +38,8 @@ use Rattle.logic.specs.Sizes.{Before, After, placing, necessityOf}
 use Rattle.logic.proofs.Reapply.{filter-few}
 use Rattle.logic.proofs.Forked.{left-as}
 
-pub given-placed : (ns : List Node) (q : List ℕ) (more : List Targeted) {len n items : ℕ} {ta tb wa wb ia : List ℕ} {r : Counts} → len ≤ 512 → Held ns len ta → Listed q n wa → (len ≤ 512 → Listing [] more items len ia) → Steady ns q more →
-    ((ns : List Node) (q : List ℕ) (rs : List Row) → Held ns len ta → (len ≤ 512 → Listed q n wa) → (len ≤ 512 → Rows rs items ia (length ns)) → Steady ns q (map itemFrom rs) → Left (appendLogicRuleResult ns q (map itemFrom rs)) r tb wb) →
+pub given-placed : (ns : List Node) (q : List ℕ) (more : List Targeted) {len n items : ℕ} {ta tb wa wb ia : List ℕ} {r : Counts} → len ≤ mostIdentifiers → Held ns len ta → Listed q n wa → (len ≤ mostIdentifiers → Listing [] more items len ia) → Steady ns q more →
+    ((ns : List Node) (q : List ℕ) (rs : List Row) → Held ns len ta → (len ≤ mostIdentifiers → Listed q n wa) → (len ≤ mostIdentifiers → Rows rs items ia (length ns)) → Steady ns q (map itemFrom rs) → Left (appendLogicRuleResult ns q (map itemFrom rs)) r tb wb) →
     Left (appendLogicRuleResult ns q more) r tb wb
 given-placed ns q more small h l list st rest =
     let put = list small in
@@ -56,7 +57,7 @@ module _ (s : State) (x f : ℕ) where
   pub fresh-as : {w c : ℕ} {oa ra la va : List ℕ} → w ≡ nodeAt (s .nodes) x .world → Stack (fresh f w x through ∷ s .necessities) c oa ra la va → Stack (necessityOf s x f ∷ s .necessities) c oa ra la va
   fresh-as {c = c} {oa} {ra} {la} {va} e h = subst (λ (v : ℕ). Stack (fresh f v x through ∷ s .necessities) c oa ra la va) e h
 
-  pub through-fits : {q : List ℕ} {p : Sizes} {ta ea ra la va oa wa : List ℕ} → Before p ta ea ra la va oa wa s q → {m : ℕ} {a : List ℕ} → Listed through m a → (m ≤ 512) × Each (λ y. y < 512) through
+  pub through-fits : {q : List ℕ} {p : Sizes} {ta ea ra la va oa wa : List ℕ} → Before p ta ea ra la va oa wa s q → {m : ℕ} {a : List ℕ} → Listed through m a → (m ≤ mostIdentifiers) × Each (λ y. y < mostIdentifiers) through
   through-fits b l = (
     listed-fits l (omega (arith, filter-few (λ leaf. elem x (path (s .nodes) leaf)) (leaves (s .nodes)), leaves-few (s .nodes) (b .treed), b .fits)),
     each-map (λ y (h : y < length (s .nodes)). omega (arith, h, b .fits)) through (filter-keeps (λ y. y < length (s .nodes)) (λ leaf. elem x (path (s .nodes) leaf)) (leaves (s .nodes)) (leaves-within (s .nodes) (b .treed))),
@@ -83,7 +84,7 @@ module _ (F : Flags) (s : State) (x : ℕ) (recs : List Rec) (f : ℕ) (q : List
   pub necessity-after : {made : Given} {r : Counts} {c k worlds : ℕ} {ta tb ea ra la va oa wa wb ia : List ℕ} →
       Gave (s .nodes ++ []) [] (reapplyNecessity (s .nodes) graph none (length (s .nodes ++ [])) necessity) made ta ia →
       Stack (visiting (s .nodes) graph necessity ∷ s .necessities) c oa ra la va → Drawn graph worlds ea → Listed q k wa → Treed (s .nodes) →
-      ((ns : List Node) (q : List ℕ) (more : List Targeted) → Held ns (made .nodes) ta → Listed q k wa → (made .nodes ≤ 512 → Listing [] more (made .items) (made .nodes) ia) → Steady ns q more →
+      ((ns : List Node) (q : List ℕ) (more : List Targeted) → Held ns (made .nodes) ta → Listed q k wa → (made .nodes ≤ mostIdentifiers → Listing [] more (made .items) (made .nodes) ia) → Steady ns q more →
       Left (appendLogicRuleResult ns q more) r tb wb) →
       After (record { nodes = r .nodes; waiting = r .waiting; worlds = worlds; necessities = c }) tb ea ra la va oa wb (applyNecessity F s x recs f) (placing s q (applyNecessity F s x recs f))
   unfolding applyRule applyNecessity fresh

@@ -6,6 +6,7 @@ use mathlib.Core.List.{List, [], _∷_, _++_, append-nil}
 use mathlib.Core.Option.{Option, some}
 use native.Mathlib.Omega.{arith}
 use lib.ListN.{length, getD, set, length-append}
+use Rattle.definition.specs.Limits.{mostIdentifiers}
 use Rattle.definition.specs.Lists.{Each, empty, filter, below, elem}
 use Rattle.definition.specs.Graph.{Graph, edge, reached}
 use Rattle.definition.specs.Tree.{Node, leaves, path}
@@ -38,7 +39,7 @@ filter-few p (x ∷ xs) = go (p x) (filter-few p xs)
     go false h = omega (arith, h)
 
 module _ (g : Graph) (n : Necessity) {worlds : ℕ} {ea : List ℕ} (d : Drawn g worlds ea) where
-  pub visit-fits : {r : ℕ} {a : List ℕ} → Listed (unvisited g n) r a → r ≤ 512
+  pub visit-fits : {r : ℕ} {a : List ℕ} → Listed (unvisited g n) r a → r ≤ mostIdentifiers
   unfolding unvisited reached
   visit-fits l =
       listed-fits l (omega (
@@ -96,7 +97,7 @@ pub row-as : {n : Necessity} {j k : ℕ} {r a v : List ℕ} → j ≡ k → stor
 row-as {n} {j} {k} {r} {a} {v} e h = subst (λ (m : ℕ). stored.Row n m r a v) e h
 
 -- the tree as it stood before the step
-pub stands : (t more : List Node) {base len : ℕ} {a : List ℕ} → length t ≡ base → Held (t ++ more) len a → len ≤ 512 → Stands t base a
+pub stands : (t more : List Node) {base len : ℕ} {a : List ℕ} → length t ≡ base → Held (t ++ more) len a → len ≤ mostIdentifiers → Stands t base a
 stands t more b h small = let k = held-ok h small in record { more = more; count = b; room = omega (arith, k .0, small); laid = k .1 }
 
 -- the paths of a necessity, known by its spawner
@@ -104,7 +105,7 @@ module _ (t : List Node) (tree : Treed t) (n : Necessity) (at : Spawned t n) {y 
   pub paths-own : {r : ℕ} {o : List ℕ} → Listed (filter (λ leaf. elem y (path t leaf)) (leaves t)) r o → Listed (leavesOf t n) r o
   paths-own l = listed-as (leavesOf t n) (ap (λ (x : ℕ). filter (λ leaf. elem x (path t leaf)) (leaves t)) e ∙ sym (spawned-leaves t tree n at)) l
 
-pub paths-few : (t : List Node) → Treed t → (n : Necessity) {base : ℕ} {a : List ℕ} → Stands t base a → {r : ℕ} {o : List ℕ} → Listed (leavesOf t n) r o → r ≤ 512
+pub paths-few : (t : List Node) → Treed t → (n : Necessity) {base : ℕ} {a : List ℕ} → Stands t base a → {r : ℕ} {o : List ℕ} → Listed (leavesOf t n) r o → r ≤ mostIdentifiers
 unfolding leavesOf
 paths-few t tree n d k = listed-fits k (omega (arith, filter-few (λ leaf. runsThrough n (path t leaf)) (leaves t), leaves-few t tree, d .room, length-append t (d .more)))
 
@@ -113,7 +114,7 @@ unfolding leavesOf
 paths-seen P t n h = filter-keeps P (λ leaf. runsThrough n (path t leaf)) (leaves t) h
 
 -- a full table stays full
-pub gave-full : {ns : List Node} {rs : List Row} {made : Made} (r : Given) {a ia : List ℕ} → Held ns (r .nodes) a → 512 < r .nodes → Gave ns rs made r a ia
+pub gave-full : {ns : List Node} {rs : List Row} {made : Made} (r : Given) {a ia : List ℕ} → Held ns (r .nodes) a → mostIdentifiers < r .nodes → Gave ns rs made r a ia
 gave-full {ns} {rs} {made} r h big =
     record { nodes = held-long (ns ++ made .nodes) h big (omega (arith, length-append ns (made .nodes))); rows = λ small. absurd (omega (arith, small, big)) }
 
@@ -138,7 +139,7 @@ module _ (t : List Node) (g : Graph) (fk : Fork) (ns : List Necessity) (i : ℕ)
   then b = cond b (visiting t g n) n
 
   -- not given again
-  pub kept-out : {ms : List Node} {rs : List Row} (r : Given) {a ia : List ℕ} {b : Bool} → b ≡ isReapplied t fk n → b ≡ false → Held ms (r .nodes) a → (r .nodes ≤ 512 → Listing rs [] (r .items) (r .nodes) ia) →
+  pub kept-out : {ms : List Node} {rs : List Row} (r : Given) {a ia : List ℕ} {b : Bool} → b ≡ isReapplied t fk n → b ≡ false → Held ms (r .nodes) a → (r .nodes ≤ mostIdentifiers → Listing rs [] (r .items) (r .nodes) ia) →
       Gave ms rs (reapplyIfOnPath t g fk (length ms) n) r a ia
   unfolding reapplyIfOnPath
   kept-out {ms} {rs} r {a} {ia} e f h l =
@@ -159,7 +160,7 @@ module _ (t : List Node) (g : Graph) (fk : Fork) (ns : List Necessity) (i : ℕ)
   stack-in e f s = stack-set ns i (ap then (sym f ∙ e)) s
 
   -- no world to visit: given again or not, nothing comes of it
-  pub kept-idle : length (unvisited g n) ≡ 0 → {ms : List Node} {rs : List Row} (r : Given) {a ia : List ℕ} → Held ms (r .nodes) a → (r .nodes ≤ 512 → Listing rs [] (r .items) (r .nodes) ia) →
+  pub kept-idle : length (unvisited g n) ≡ 0 → {ms : List Node} {rs : List Row} (r : Given) {a ia : List ℕ} → Held ms (r .nodes) a → (r .nodes ≤ mostIdentifiers → Listing rs [] (r .items) (r .nodes) ia) →
       Gave ms rs (reapplyIfOnPath t g fk (length ms) n) r a ia
   unfolding reapplyIfOnPath reapplyNecessity
   kept-idle e {ms} {rs} r {a} {ia} h l =

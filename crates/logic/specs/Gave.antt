@@ -2,6 +2,7 @@
 use Prim.Native.Nat.{ℕ, _≤_}
 use mathlib.Core.Path.{_≡_}
 use mathlib.Core.List.{List, _++_, map}
+use Rattle.definition.specs.Limits.{mostIdentifiers}
 use Rattle.definition.specs.Tree.{Node}
 use Rattle.definition.specs.Subtree.{Targeted}
 use Rattle.definition.specs.Modality.{Made}
@@ -17,4 +18,4 @@ pub record Listing (rs : List Row) (more : List Targeted) (items nodes : ℕ) (i
 
 pub record Gave (ns : List Node) (rs : List Row) (made : Made) (r : Given) (a ia : List ℕ) : Type 0 where
   pub nodes : Held (ns ++ made .nodes) (r .nodes) a
-  pub rows : r .nodes ≤ 512 → Listing rs (made .subtrees) (r .items) (r .nodes) ia
+  pub rows : r .nodes ≤ mostIdentifiers → Listing rs (made .subtrees) (r .items) (r .nodes) ia

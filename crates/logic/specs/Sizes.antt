@@ -3,6 +3,7 @@ use Prim.Native.Nat.{ℕ, _≤_, _<_}
 use mathlib.Core.Path.{_≡_}
 use mathlib.Core.List.{List, _++_}
 use lib.ListN.{length}
+use Rattle.definition.specs.Limits.{mostIdentifiers, graphWidth}
 use Rattle.definition.specs.Lists.{Each, elem, filter}
 use Rattle.definition.specs.Tree.{nodeAt, leaves, path}
 use Rattle.definition.specs.Modality.{Necessity}
@@ -30,14 +31,14 @@ module _ (p : Sizes) (ta ea ra la va oa wa : List ℕ) where
   pub record Before (s : State) (q : List ℕ) : Type 0 where
     pub treed : Treed (s .nodes)
     pub spawned : Each (Spawned (s .nodes)) (s .necessities)
-    pub fits : length (s .nodes) ≤ 512
+    pub fits : length (s .nodes) ≤ mostIdentifiers
     pub count : length (s .nodes) ≡ p .nodes
     pub laid : ta ≡ lay (s .nodes)
     pub waiting : Listed q (p .waiting) wa
     pub graph : Drawn (s .graph) (p .worlds) ea
-    pub few : p .worlds < 25
+    pub few : p .worlds < graphWidth
     pub necessities : Stack (s .necessities) (p .necessities) oa ra la va
-    pub room : p .necessities < 512
+    pub room : p .necessities < mostIdentifiers
 
   pub record Rest (r : LogicRuleResult) (t : Placed) : Type 0 where
     pub waiting : Listed (t .waiting) (p .waiting) wa
@@ -47,4 +48,4 @@ module _ (p : Sizes) (ta ea ra la va oa wa : List ℕ) where
   -- a rule's result, placed; more than 512 nodes: full
   pub record After (r : LogicRuleResult) (t : Placed) : Type 0 where
     pub nodes : Held (t .nodes) (p .nodes) ta
-    pub rest : p .nodes ≤ 512 → Rest r t
+    pub rest : p .nodes ≤ mostIdentifiers → Rest r t

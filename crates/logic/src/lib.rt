@@ -7,6 +7,17 @@ use graph::PossibleWorld;
 use graph::fork_world;
 use graph::forked_world;
 use graph::initialize_graph_if_needed;
+use limits::Edges;
+use limits::ITEM_CELLS;
+use limits::Items;
+use limits::Leaves;
+use limits::MOST_IDENTIFIERS;
+use limits::Necessities;
+use limits::Nodes;
+use limits::Numbers;
+use limits::Order;
+use limits::Waiting;
+use limits::Worlds;
 use modality::Forking;
 use modality::give_on_leaf;
 use modality::is_reapplied;
@@ -39,6 +50,7 @@ ghost use mathlib.Core.List.{List, [], _∷_, _++_};
 ghost use mathlib.Core.Option.{Option, some};
 ghost use Prim.Native.Nat.{ℕ, suc, _≤_, _<_, _+_};
 ghost use lib.ListN.{length, getD, set};
+ghost use Rattle.definition.specs.Limits.{mostIdentifiers};
 ghost use Rattle.arrays.specs.Listed.{Listed};
 ghost use Rattle.definition.specs.Lists.{Each};
 ghost use Rattle.definition.specs.Records.{Rec, nobody};
@@ -70,11 +82,11 @@ pub struct Given {
 }
 
 // The word of leaf x.
-fn word_at(seen: &[u32; 512], x: ProofTreeNodeID) -> u32
-    ensures { λ r. ⌜ (x .0 < 512 → r ≡ getD (now (seen .entry)) (x .0) 0) ⌝ }
+fn word_at(seen: &Worlds, x: ProofTreeNodeID) -> u32
+    ensures { λ r. ⌜ (x .0 < mostIdentifiers → r ≡ getD (now (seen .entry)) (x .0) 0) ⌝ }
 {
     let i = x.0 as usize;
-    if 512 <= i {
+    if MOST_IDENTIFIERS <= i {
         return 0;
     }
     seen[i]
@@ -82,21 +94,21 @@ fn word_at(seen: &[u32; 512], x: ProofTreeNodeID) -> u32
 
 // Path by path, a node for each of the worlds that occurs there, as the leaf's word says.
 fn give_on(
-    tree: &mut [u16; 4608],
+    tree: &mut Nodes,
     len: usize,
     spawner: ProofTreeNodeID,
     formula: FormulaNumber,
-    seen: &[u32; 512],
-    worlds: &[u16; 512],
+    seen: &Worlds,
+    worlds: &Numbers,
     m: usize,
-    on: &[u16; 512],
+    on: &Numbers,
     k: usize,
-    items: &mut [u16; 1536],
+    items: &mut Items,
     count: usize,
 ) -> Given
     ensures { λ r. ⌜ ((t more : List Node) (fk : Option Fork) (n : Necessity) (ws ls : List ℕ) (rs : List subtrees.Row) → n .spawner ≡ spawner .0 → n .formula ≡ formula .0
-        → Listed ws m (now (worlds .entry)) → m ≤ 512 → Each (λ v. v < 32) ws → Listed ls k (now (on .entry)) → k ≤ 512 → Each (Seen t fk (now (seen .entry))) ls
-        → Held (t ++ more) len (now (tree .entry)) → (len ≤ 512 → Listing rs [] count len (now (items .entry)))
+        → Listed ws m (now (worlds .entry)) → m ≤ mostIdentifiers → Each (λ v. v < 32) ws → Listed ls k (now (on .entry)) → k ≤ mostIdentifiers → Each (Seen t fk (now (seen .entry))) ls
+        → Held (t ++ more) len (now (tree .entry)) → (len ≤ mostIdentifiers → Listing rs [] count len (now (items .entry)))
         → Gave (t ++ more) rs (giveOn t fk n ws (length (t ++ more)) ls) r (now (tree .exit)) (now (items .exit))) ⌝ }
 {
     let mut here = Given {
@@ -129,12 +141,12 @@ pub struct Sizes {
 
 // The worlds that the necessity of row k has still to visit.
 fn worlds_to_visit(
-    edges: &[u8; 625],
+    edges: &Edges,
     worlds: usize,
-    rows: &[u16; 1536],
-    visited: &[u32; 512],
+    rows: &Necessities,
+    visited: &Worlds,
     k: usize,
-    out: &mut [u16; 512],
+    out: &mut Numbers,
 ) -> usize
     ensures { λ r. ⌜ ((g : Graph) (n : Necessity) (leafBits : List ℕ) → Row n k (now (rows .entry)) leafBits (now (visited .entry)) → Drawn g worlds (now (edges .entry)) → Listed [] 0 (now (out .entry))
         → Listed (unvisited g n) r (now (out .exit))) ⌝ }
@@ -145,24 +157,24 @@ fn worlds_to_visit(
 
 // The necessity of row k, i below the top, is given on its paths for the listed worlds, which it has then visited if it has a path.
 fn reapply_necessity(
-    tree: &mut [u16; 4608],
+    tree: &mut Nodes,
     len: usize,
-    rows: &[u16; 1536],
-    visited: &mut [u32; 512],
+    rows: &Necessities,
+    visited: &mut Worlds,
     k: usize,
-    seen: &[u32; 512],
-    worlds: &[u16; 512],
+    seen: &Worlds,
+    worlds: &Numbers,
     n: usize,
-    on: &[u16; 512],
+    on: &Numbers,
     m: usize,
-    items: &mut [u16; 1536],
+    items: &mut Items,
     count: usize,
 ) -> Given
     ensures { λ r. ⌜ ((t more : List Node) (g : Graph) (fk : Option Fork) (ns : List Necessity) (none : Necessity) (rs : List subtrees.Row) (c i : ℕ) (order leafBits : List ℕ)
         (s : Stack ns c order (now (rows .entry)) leafBits (now (visited .entry))) → i < c → k ≡ getD (s .ks) i 0
-        → Listed (unvisited g (getD ns i none)) n (now (worlds .entry)) → n ≤ 512 → Each (λ v. v < 32) (unvisited g (getD ns i none))
-        → Listed (leavesOf t (getD ns i none)) m (now (on .entry)) → m ≤ 512 → Each (Seen t fk (now (seen .entry))) (leavesOf t (getD ns i none))
-        → Held (t ++ more) len (now (tree .entry)) → (len ≤ 512 → Listing rs [] count len (now (items .entry)))
+        → Listed (unvisited g (getD ns i none)) n (now (worlds .entry)) → n ≤ mostIdentifiers → Each (λ v. v < 32) (unvisited g (getD ns i none))
+        → Listed (leavesOf t (getD ns i none)) m (now (on .entry)) → m ≤ mostIdentifiers → Each (Seen t fk (now (seen .entry))) (leavesOf t (getD ns i none))
+        → Held (t ++ more) len (now (tree .entry)) → (len ≤ mostIdentifiers → Listing rs [] count len (now (items .entry)))
         → Gave (t ++ more) rs (reapplyNecessity t g fk (length (t ++ more)) (getD ns i none)) r (now (tree .exit)) (now (items .exit))
         × Stack (set ns i (visiting t g (getD ns i none))) c order (now (rows .entry)) leafBits (now (visited .exit))) ⌝ }
 {
@@ -189,36 +201,36 @@ fn reapply_necessity(
 
 // The necessity of row k, i below the top, is given again if it has a world to visit and one of its paths goes through the forking node.
 fn reapply_if_on_path(
-    tree: &mut [u16; 4608],
+    tree: &mut Nodes,
     base: usize,
     here: Given,
-    edges: &[u8; 625],
+    edges: &Edges,
     worlds: usize,
-    rows: &[u16; 1536],
-    visited: &mut [u32; 512],
+    rows: &Necessities,
+    visited: &mut Worlds,
     k: usize,
     node: ProofTreeNodeID,
-    seen: &[u32; 512],
-    items: &mut [u16; 1536],
+    seen: &Worlds,
+    items: &mut Items,
 ) -> Given
     ensures { λ r. ⌜ ((t more : List Node) (g : Graph) (ns : List Necessity) (none : Necessity) (rs : List subtrees.Row) (c i : ℕ) (order leafBits : List ℕ) (fk : Fork)
         (s : Stack ns c order (now (rows .entry)) leafBits (now (visited .entry))) → i < c → k ≡ getD (s .ks) i 0 → fk .node ≡ node .0
         → Drawn g worlds (now (edges .entry)) → length t ≡ base → Treed t → Spawned t (getD ns i none) → Each (Seen t (some fk) (now (seen .entry))) (leaves t)
-        → Held (t ++ more) (here .nodes) (now (tree .entry)) → (here .nodes ≤ 512 → Listing rs [] (here .items) (here .nodes) (now (items .entry)))
+        → Held (t ++ more) (here .nodes) (now (tree .entry)) → (here .nodes ≤ mostIdentifiers → Listing rs [] (here .items) (here .nodes) (now (items .entry)))
         → Gave (t ++ more) rs (reapplyIfOnPath t g fk (length (t ++ more)) (getD ns i none)) r (now (tree .exit)) (now (items .exit))
-        × (r .nodes ≤ 512 → Stack (set ns i (cond (isReapplied t fk (getD ns i none)) (visiting t g (getD ns i none)) (getD ns i none))) c order (now (rows .entry)) leafBits (now (visited .exit)))) ⌝ }
+        × (r .nodes ≤ mostIdentifiers → Stack (set ns i (cond (isReapplied t fk (getD ns i none)) (visiting t g (getD ns i none)) (getD ns i none))) c order (now (rows .entry)) leafBits (now (visited .exit)))) ⌝ }
 {
-    if 512 < here.nodes {
+    if MOST_IDENTIFIERS < here.nodes {
         return here;
     }
-    let mut ws = [0u16; 512];
+    let mut ws = [0u16; MOST_IDENTIFIERS];
     let n = worlds_to_visit(edges, worlds, rows, visited, k, &mut ws);
     if n == 0 {
         return here;
     }
     let spawner = spawner_at(rows, k);
     if is_reapplied(tree, base, node, spawner) {
-        let mut on = [0u16; 512];
+        let mut on = [0u16; MOST_IDENTIFIERS];
         let m = leaves_through(tree, base, spawner, &mut on);
         return reapply_necessity(
             tree,
@@ -240,30 +252,30 @@ fn reapply_if_on_path(
 
 // Every stored necessity, from the top of the stack, is given again where one of its paths goes through the forking node; the stack is turned round.
 fn reapply_necessity_after_possibility(
-    tree: &mut [u16; 4608],
+    tree: &mut Nodes,
     base: usize,
     begun: Given,
-    edges: &[u8; 625],
+    edges: &Edges,
     worlds: usize,
-    rows: &[u16; 1536],
-    visited: &mut [u32; 512],
-    order: &mut [u16; 512],
+    rows: &Necessities,
+    visited: &mut Worlds,
+    order: &mut Order,
     c: usize,
     node: ProofTreeNodeID,
-    seen: &[u32; 512],
-    items: &mut [u16; 1536],
+    seen: &Worlds,
+    items: &mut Items,
 ) -> Given
     ensures { λ r. ⌜ ((t more : List Node) (g : Graph) (ns : List Necessity) (rs : List subtrees.Row) (leafBits : List ℕ) (fk : Fork)
         → Stack ns c (now (order .entry)) (now (rows .entry)) leafBits (now (visited .entry)) → fk .node ≡ node .0
         → Drawn g worlds (now (edges .entry)) → length t ≡ base → Treed t → Each (Spawned t) ns → (0 < c → Each (Seen t (some fk) (now (seen .entry))) (leaves t))
-        → Held (t ++ more) (begun .nodes) (now (tree .entry)) → (begun .nodes ≤ 512 → Listing rs [] (begun .items) (begun .nodes) (now (items .entry)))
+        → Held (t ++ more) (begun .nodes) (now (tree .entry)) → (begun .nodes ≤ mostIdentifiers → Listing rs [] (begun .items) (begun .nodes) (now (items .entry)))
         → Gave (t ++ more) rs (reapplyNecessityAfterPossibility t g fk (length (t ++ more)) ns) r (now (tree .exit)) (now (items .exit))
-        × (r .nodes ≤ 512 → Stack (necessitiesAfterPossibility t g fk ns) c (now (order .exit)) (now (rows .entry)) leafBits (now (visited .exit)))) ⌝ }
+        × (r .nodes ≤ mostIdentifiers → Stack (necessitiesAfterPossibility t g fk ns) c (now (order .exit)) (now (rows .entry)) leafBits (now (visited .exit)))) ⌝ }
 {
     let mut here = begun;
     let mut i: usize = 0;
     while i < c {
-        if 512 < here.nodes {
+        if MOST_IDENTIFIERS < here.nodes {
             return here;
         }
         let k = row_at(order, c, i);
@@ -287,18 +299,12 @@ fn reapply_necessity_after_possibility(
 }
 
 // The subtrees that necessities gave.
-fn place_given(
-    tree: &mut [u16; 4608],
-    made: Given,
-    items: &[u16; 1536],
-    wait: &mut [u16; 512],
-    n: usize,
-) -> Counts
+fn place_given(tree: &mut Nodes, made: Given, items: &Items, wait: &mut Waiting, n: usize) -> Counts
     ensures { λ r. ⌜ ((ns : List Node) (q : List ℕ) (more : List Targeted) → Held ns (made .nodes) (now (tree .entry)) → Listed q n (now (wait .entry))
-        → (made .nodes ≤ 512 → Listing [] more (made .items) (made .nodes) (now (items .entry))) → Steady ns q more
+        → (made .nodes ≤ mostIdentifiers → Listing [] more (made .items) (made .nodes) (now (items .entry))) → Steady ns q more
         → Left (appendLogicRuleResult ns q more) r (now (tree .exit)) (now (wait .exit))) ⌝ }
 {
-    if 512 < made.nodes {
+    if MOST_IDENTIFIERS < made.nodes {
         return Counts {
             nodes: made.nodes,
             waiting: n,
@@ -312,16 +318,16 @@ fn store_necessity(
     p: Sizes,
     x: ProofTreeNodeID,
     f: FormulaNumber,
-    tree: &[u16; 4608],
-    rows: &mut [u16; 1536],
-    leafs: &mut [u32; 8192],
-    visited: &mut [u32; 512],
-    order: &mut [u16; 512],
+    tree: &Nodes,
+    rows: &mut Necessities,
+    leafs: &mut Leaves,
+    visited: &mut Worlds,
+    order: &mut Order,
 ) -> usize
     ensures { λ r. ⌜ ((s : State) (q ea wa : List ℕ) → Before p (now (tree .entry)) ea (now (rows .entry)) (now (leafs .entry)) (now (visited .entry)) (now (order .entry)) wa s q
         → Stack (necessityOf s (x .0) (f .0) ∷ s .necessities) r (now (order .exit)) (now (rows .exit)) (now (leafs .exit)) (now (visited .exit))) ⌝ }
 {
-    let mut stored = [0u16; 512];
+    let mut stored = [0u16; MOST_IDENTIFIERS];
     let n = leaves_through(tree, p.nodes, x, &mut stored);
     let w = world_of(tree, x);
     store(
@@ -344,13 +350,13 @@ pub fn apply_necessity(
     p: Sizes,
     x: ProofTreeNodeID,
     f: FormulaNumber,
-    tree: &mut [u16; 4608],
-    edges: &mut [u8; 625],
-    rows: &mut [u16; 1536],
-    leafs: &mut [u32; 8192],
-    visited: &mut [u32; 512],
-    order: &mut [u16; 512],
-    wait: &mut [u16; 512],
+    tree: &mut Nodes,
+    edges: &mut Edges,
+    rows: &mut Necessities,
+    leafs: &mut Leaves,
+    visited: &mut Worlds,
+    order: &mut Order,
+    wait: &mut Waiting,
 ) -> Sizes
     ensures { λ r. ⌜ ((F : Flags) (s : State) (more : List Rec) (q : List ℕ) → logic ≡ logicOf F
         → Before p (now (tree .entry)) (now (edges .entry)) (now (rows .entry)) (now (leafs .entry)) (now (visited .entry)) (now (order .entry)) (now (wait .entry)) s q
@@ -359,20 +365,20 @@ pub fn apply_necessity(
     let worlds = initialize_graph_if_needed(edges, p.worlds, logic);
     let c = store_necessity(p, x, f, tree, rows, leafs, visited, order);
     let k = row_at(order, c, 0);
-    let mut below = [0u16; 512];
+    let mut below = [0u16; MOST_IDENTIFIERS];
     let m = leaves_through(tree, p.nodes, x, &mut below);
-    let mut on = [0u16; 512];
+    let mut on = [0u16; MOST_IDENTIFIERS];
     let own = leaves_of(tree, p.nodes, leafs, k, &below, m, &mut on, 0);
     let forking = Forking {
         on: false,
         node: x,
         world: PossibleWorld::ZERO,
     };
-    let mut seen = [0u32; 512];
+    let mut seen = [0u32; MOST_IDENTIFIERS];
     worlds_on_paths(tree, p.nodes, forking, &on, own, &mut seen);
-    let mut ws = [0u16; 512];
+    let mut ws = [0u16; MOST_IDENTIFIERS];
     let n = worlds_to_visit(edges, worlds, rows, visited, k, &mut ws);
-    let mut items = [0u16; 1536];
+    let mut items = [0u16; ITEM_CELLS];
     let made = reapply_necessity(
         tree,
         p.nodes,
@@ -414,7 +420,7 @@ fn with_comment(id: ProofTreeNodeID) -> ProofSubtree
 
 // The formula's node in the new world, and then its comment's: the formula's identifier, and the count after both.
 fn fork_nodes(
-    tree: &mut [u16; 4608],
+    tree: &mut Nodes,
     len: usize,
     x: ProofTreeNodeID,
     f: FormulaNumber,
@@ -439,19 +445,19 @@ fn fork_nodes(
 
 // The fork's two nodes, the first under `id`, and then the subtrees that necessities gave.
 fn place_fork(
-    tree: &mut [u16; 4608],
+    tree: &mut Nodes,
     id: ProofTreeNodeID,
     made: Given,
     x: ProofTreeNodeID,
-    items: &[u16; 1536],
-    wait: &mut [u16; 512],
+    items: &Items,
+    wait: &mut Waiting,
     n: usize,
 ) -> Counts
-    ensures { λ r. ⌜ ((ns : List Node) (q : List ℕ) (more : List Targeted) (base : ℕ) → Held ns (made .nodes) (now (tree .entry)) → Listed q n (now (wait .entry)) → (made .nodes ≤ 512 → id .0 ≡ base) → base + 2 ≤ length ns
-        → (made .nodes ≤ 512 → Listing [] more (made .items) (made .nodes) (now (items .entry))) → Steady ns q (record { target = x .0; subtree = withMiddle (suc base ∷ base ∷ []) } ∷ more)
+    ensures { λ r. ⌜ ((ns : List Node) (q : List ℕ) (more : List Targeted) (base : ℕ) → Held ns (made .nodes) (now (tree .entry)) → Listed q n (now (wait .entry)) → (made .nodes ≤ mostIdentifiers → id .0 ≡ base) → base + 2 ≤ length ns
+        → (made .nodes ≤ mostIdentifiers → Listing [] more (made .items) (made .nodes) (now (items .entry))) → Steady ns q (record { target = x .0; subtree = withMiddle (suc base ∷ base ∷ []) } ∷ more)
         → Left (appendLogicRuleResult ns q (record { target = x .0; subtree = withMiddle (suc base ∷ base ∷ []) } ∷ more)) r (now (tree .exit)) (now (wait .exit))) ⌝ }
 {
-    if 512 < made.nodes {
+    if MOST_IDENTIFIERS < made.nodes {
         return Counts {
             nodes: made.nodes,
             waiting: n,
@@ -463,14 +469,14 @@ fn place_fork(
 
 // Stores the worlds that occur on each leaf's path while x forks to world v; nothing where no necessity asks for them.
 fn worlds_at_fork(
-    tree: &[u16; 4608],
+    tree: &Nodes,
     base: usize,
     x: ProofTreeNodeID,
     v: PossibleWorld,
     necessities: usize,
-    seen: &mut [u32; 512],
+    seen: &mut Worlds,
 )
-    ensures { λ r. ⌜ ((t : List Node) → Treed t → length t ≡ base → base ≤ 512 → now (tree .entry) ≡ lay t → length (now (seen .entry)) ≡ 512 → 0 < necessities
+    ensures { λ r. ⌜ ((t : List Node) → Treed t → length t ≡ base → base ≤ mostIdentifiers → now (tree .entry) ≡ lay t → length (now (seen .entry)) ≡ mostIdentifiers → 0 < necessities
         → Each (Seen t (some (record { node = x .0; world = v .0 })) (now (seen .exit))) (leaves t)) ⌝ }
 {
     if necessities == 0 {
@@ -481,7 +487,7 @@ fn worlds_at_fork(
         node: x,
         world: v,
     };
-    let mut all = [0u16; 512];
+    let mut all = [0u16; MOST_IDENTIFIERS];
     let m = leaves_below(tree, ProofTreeNodeID::ROOT, base, &mut all, 0);
     worlds_on_paths(tree, base, forking, &all, m, seen);
 }
@@ -492,13 +498,13 @@ pub fn apply_possibility(
     p: Sizes,
     x: ProofTreeNodeID,
     f: FormulaNumber,
-    tree: &mut [u16; 4608],
-    edges: &mut [u8; 625],
-    rows: &mut [u16; 1536],
-    leafs: &mut [u32; 8192],
-    visited: &mut [u32; 512],
-    order: &mut [u16; 512],
-    wait: &mut [u16; 512],
+    tree: &mut Nodes,
+    edges: &mut Edges,
+    rows: &mut Necessities,
+    leafs: &mut Leaves,
+    visited: &mut Worlds,
+    order: &mut Order,
+    wait: &mut Waiting,
 ) -> Sizes
     ensures { λ r. ⌜ ((F : Flags) (s : State) (more : List Rec) (q : List ℕ) → logic ≡ logicOf F
         → Before p (now (tree .entry)) (now (edges .entry)) (now (rows .entry)) (now (leafs .entry)) (now (visited .entry)) (now (order .entry)) (now (wait .entry)) s q
@@ -507,7 +513,7 @@ pub fn apply_possibility(
     let known = initialize_graph_if_needed(edges, p.worlds, logic);
     let v = forked_world(known);
     let worlds = fork_world(edges, known, world_of(tree, x), logic);
-    let mut seen = [0u32; 512];
+    let mut seen = [0u32; MOST_IDENTIFIERS];
     worlds_at_fork(tree, p.nodes, x, v, p.necessities, &mut seen);
     let forked = fork_nodes(tree, p.nodes, x, f, v);
     let id = forked.id;
@@ -515,7 +521,7 @@ pub fn apply_possibility(
         nodes: forked.len,
         items: 0,
     };
-    let mut items = [0u16; 1536];
+    let mut items = [0u16; ITEM_CELLS];
     let made = reapply_necessity_after_possibility(
         tree,
         p.nodes,

@@ -7,6 +7,8 @@ use native.Mathlib.Omega.{arith}
 use lib.Dec.{ltb}
 use lib.ListN.{length, List·getD-eq-default}
 use borrow.Author.Tests.{lt-ltb, le-ltb}
+use Rattle.definition.specs.Limits.{mostIdentifiers}
+use Rattle.limits.specs.Arrays.{leafCount}
 use Rattle.bits.specs.Bits.{bitAt, Bits}
 use Rattle.definition.specs.Lists.{elem}
 use Rattle.definition.specs.Records.{nobody}
@@ -21,21 +23,21 @@ use Rattle.modality.specs.Stands.{Stands}
 
 -- ---- a row of bits
 module _ {k : ℕ} {l words : List ℕ} (d : InRow k l words) (y : ℕ) where
-  pub row-none : 512 ≤ y → false ≡ elem y l
-  row-none h = rw (le-ltb y 512 h) at (d .same y)
+  pub row-none : mostIdentifiers ≤ y → false ≡ elem y l
+  row-none h = rw (le-ltb y mostIdentifiers h) at (d .same y)
 
-  pub row-has : {r : Bool} → y < 512 → ((p : ℕ → Bool) → Bits p words → r ≡ (ltb (k * 512 + y) 262144 && p (k * 512 + y))) → r ≡ elem y l
+  pub row-has : {r : Bool} → y < mostIdentifiers → ((p : ℕ → Bool) → Bits p words → r ≡ (ltb (k * mostIdentifiers + y) leafCount && p (k * mostIdentifiers + y))) → r ≡ elem y l
   row-has h f =
-      let g : k * 512 + y < 262144 = omega (arith, d .row) in
-      let e : bitAt words (k * 512 + y) ≡ elem y l = rw (lt-ltb y 512 h) at (d .same y) in
-      f (bitAt words) (record { long = d .long; same = λ i b. refl }) ∙ rw (lt-ltb (k * 512 + y) 262144 g) e
+      let g : k * mostIdentifiers + y < leafCount = omega (arith, d .row) in
+      let e : bitAt words (k * mostIdentifiers + y) ≡ elem y l = rw (lt-ltb y mostIdentifiers h) at (d .same y) in
+      f (bitAt words) (record { long = d .long; same = λ i b. refl }) ∙ rw (lt-ltb (k * mostIdentifiers + y) leafCount g) e
 
 -- ---- the tree as it stood
 module _ (get : Node → ℕ) {t : List Node} {base : ℕ} {a : List ℕ} (d : Stands t base a) (x : ℕ) where
   pub stands-out : base ≤ x → get (newNode nobody nobody nobody) ≡ get (nodeAt t x)
   stands-out h = ap get (sym (List·getD-eq-default t (newNode nobody nobody nobody) (omega (arith, d .count))))
 
-  pub stands-in : {v : ℕ} → x < base → ((ns : List Node) → length ns ≤ 512 → a ≡ lay ns → v ≡ get (nodeAt ns x)) → v ≡ get (nodeAt t x)
+  pub stands-in : {v : ℕ} → x < base → ((ns : List Node) → length ns ≤ mostIdentifiers → a ≡ lay ns → v ≡ get (nodeAt ns x)) → v ≡ get (nodeAt t x)
   stands-in h f = f (t ++ d .more) (d .room) (d .laid) ∙ ap get (node-append t (d .more) x (omega (arith, d .count)))
 
 -- ---- in the tree as it stood
@@ -44,7 +46,7 @@ module _ {t : List Node} {base : ℕ} {a : List ℕ} (d : Stands t base a) (x : 
   unfolding placed
   placed-out h = ap (λ (n : Node). placed (n .place)) (sym (List·getD-eq-default t (newNode nobody nobody nobody) (omega (arith, d .count))))
 
-  module _ (low : x < base) {v : ℕ} (e : (ns : List Node) → length ns ≤ 512 → a ≡ lay ns → v ≡ placeCode (nodeAt ns x .place)) where
+  module _ (low : x < base) {v : ℕ} (e : (ns : List Node) → length ns ≤ mostIdentifiers → a ≡ lay ns → v ≡ placeCode (nodeAt ns x .place)) where
     code : v ≡ placeCode (nodeAt t x .place)
     code = stands-in (λ n. placeCode (n .place)) d x low e
 

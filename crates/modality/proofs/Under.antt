@@ -5,6 +5,7 @@ use mathlib.Core.Bool.{Bool, true, false, cond, _||_}
 use mathlib.Core.List.{List, [], _++_}
 use mathlib.Core.Logic.{⊎-elim}
 use lib.ListN.{length}
+use Rattle.definition.specs.Limits.{mostIdentifiers}
 use Rattle.arrays.specs.Listed.{Listed}
 use Rattle.definition.specs.Lists.{elem, filter}
 use Rattle.definition.specs.Records.{nobody}
@@ -19,7 +20,7 @@ use Rattle.tree.proofs.Paths.{listed-as, nobody-leaf}
 use Rattle.modality.specs.Stands.{Stands}
 
 -- nodes that are not in the tree yet change no leaves
-module _ (t : List Node) (r : Treed t) (more : List Node) (room : length (t ++ more) ≤ 512) where
+module _ (t : List Node) (r : Treed t) (more : List Node) (room : length (t ++ more) ≤ mostIdentifiers) where
   none-below : (k : ℕ) → leavesBelow k (t ++ more) nobody ≡ []
   unfolding leavesBelow only
   none-below zero = refl

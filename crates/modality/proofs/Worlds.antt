@@ -11,6 +11,7 @@ use lib.Dec.{ltb, eqb}
 use lib.ListN.{length, getD, set, take, length-set}
 use lib.Seq.{take-suc, take-all, getD-set-same, getD-set-other}
 use borrow.Author.Tests.{ltb-true, ltb-false, eqb-false, ne-eqb}
+use Rattle.definition.specs.Limits.{mostIdentifiers}
 use Rattle.bits.specs.Bits.{bitOf}
 use Rattle.bits.proofs.Power.{no-bit}
 use Rattle.arrays.specs.Listed.{Listed}
@@ -128,8 +129,8 @@ elem-not x [] e j h q = absurd (omega arith)
 elem-not x (y ∷ ys) e zero h q = eqb-false x y (or-left (eqb x y) (elem x ys) e) q
 elem-not x (y ∷ ys) e (suc j) h q = elem-not x ys (or-right (eqb x y) (elem x ys) e) j (omega arith) q
 
-module _ (t : List Node) (k : Option Fork) (ls : List ℕ) {m : ℕ} {o : List ℕ} (l : Listed ls m o) (small : m ≤ 512) where
-  module _ (a : List ℕ) (j leaf word : ℕ) (low : leaf < 512) (has : (v : ℕ) → v < 32 → bitOf word v ≡ occurs t k (path t leaf) v) (long : length a ≡ 512) where
+module _ (t : List Node) (k : Option Fork) (ls : List ℕ) {m : ℕ} {o : List ℕ} (l : Listed ls m o) (small : m ≤ mostIdentifiers) where
+  module _ (a : List ℕ) (j leaf word : ℕ) (low : leaf < mostIdentifiers) (has : (v : ℕ) → v < 32 → bitOf word v ≡ occurs t k (path t leaf) v) (long : length a ≡ mostIdentifiers) where
     stored : Seen t k (set a leaf word) leaf
     stored = record { low = low; same = λ v h. ap (λ (w : ℕ). bitOf w v) (getD-set-same a leaf word 0 (omega (arith, low, long))) ∙ has v h }
 
@@ -138,11 +139,11 @@ module _ (t : List Node) (k : Option Fork) (ls : List ℕ) {m : ℕ} {o : List �
         ⊎-elim (λ (e : x ≡ leaf). subst (Seen t k (set a leaf word)) (sym e) stored)
         (λ e. record { low = s .low; same = λ v h. ap (λ (w : ℕ). bitOf w v) (getD-set-other a leaf x word 0 e) ∙ s .same v h }) (alike x leaf)
 
-  pub seen-next : (a b : List ℕ) (j leaf word : ℕ) → Each (λ x. x < 512) ls → j < m → leaf ≡ getD ls j 0 → ((v : ℕ) → v < 32 → bitOf word v ≡ occurs t k (path t leaf) v) →
-      (leaf < 512 → b ≡ set a leaf word) → (length a ≡ 512) × Each (Seen t k a) (take j ls) → (length b ≡ 512) × Each (Seen t k b) (take (j + 1) ls)
+  pub seen-next : (a b : List ℕ) (j leaf word : ℕ) → Each (λ x. x < mostIdentifiers) ls → j < m → leaf ≡ getD ls j 0 → ((v : ℕ) → v < 32 → bitOf word v ≡ occurs t k (path t leaf) v) →
+      (leaf < mostIdentifiers → b ≡ set a leaf word) → (length a ≡ mostIdentifiers) × Each (Seen t k a) (take j ls) → (length b ≡ mostIdentifiers) × Each (Seen t k b) (take (j + 1) ls)
   seen-next a b j leaf word each h e has put seen =
       let inside : j < length ls = omega (arith, h, listed-count l small) in
-      let low : leaf < 512 = rw e (each-get (λ x. x < 512) ls 0 each j (λ past. absurd (omega (arith, past, inside)))) in
+      let low : leaf < mostIdentifiers = rw e (each-get (λ x. x < mostIdentifiers) ls 0 each j (λ past. absurd (omega (arith, past, inside)))) in
       rw (put low, add-one, take-suc ls j 0 inside, ← e) (
         length-set a leaf word ∙ seen .0,
         each-append (Seen t k (set a leaf word)) (take j ls) (leaf ∷ []) (each-map (others a j leaf word low has (seen .0)) (take j ls) (seen .1)) (stored a j leaf word low has (seen .0), tt),
@@ -152,8 +153,8 @@ module _ (t : List Node) (k : Option Fork) (ls : List ℕ) {m : ℕ} {o : List �
   seen-end a j h seen = rw (take-all j ls (omega (arith, listed-count l small, h))) at seen
 
 -- an entry that is none of theirs
-module _ (ls : List ℕ) {m : ℕ} {o : List ℕ} (l : Listed ls m o) (small : m ≤ 512) where
-  pub other-next : (a b : List ℕ) (j leaf word x : ℕ) → j < m → leaf ≡ getD ls j 0 → elem x ls ≡ false → (leaf < 512 → b ≡ set a leaf word) × (512 ≤ leaf → b ≡ a) → getD b x 0 ≡ getD a x 0
+module _ (ls : List ℕ) {m : ℕ} {o : List ℕ} (l : Listed ls m o) (small : m ≤ mostIdentifiers) where
+  pub other-next : (a b : List ℕ) (j leaf word x : ℕ) → j < m → leaf ≡ getD ls j 0 → elem x ls ≡ false → (leaf < mostIdentifiers → b ≡ set a leaf word) × (mostIdentifiers ≤ leaf → b ≡ a) → getD b x 0 ≡ getD a x 0
   other-next a b j leaf word x h e out put =
       let apart : x ≢ leaf = λ q. elem-not x ls out j (omega (arith, h, listed-count l small)) (q ∙ e) in
-      ⊎-elim (λ s. rw (put .0 (ltb-true leaf 512 s)) (getD-set-other a leaf x word 0 apart)) (λ s. rw (put .1 (ltb-false leaf 512 s)) refl) (either (ltb leaf 512))
+      ⊎-elim (λ s. rw (put .0 (ltb-true leaf mostIdentifiers s)) (getD-set-other a leaf x word 0 apart)) (λ s. rw (put .1 (ltb-false leaf mostIdentifiers s)) refl) (either (ltb leaf mostIdentifiers))

@@ -6,6 +6,7 @@ use mathlib.Core.List.{List}
 use mathlib.Core.Option.{Option, none, some}
 use lib.Dec.{eqb}
 use lib.ListN.{getD}
+use Rattle.definition.specs.Limits.{mostIdentifiers}
 use Rattle.bits.specs.Bits.{bitOf}
 use Rattle.definition.specs.Tree.{Node, nodeAt, path}
 use Rattle.definition.specs.Modality.{Fork, occurs}
@@ -21,5 +22,5 @@ brings t k v x = eqb (nodeAt t x .world) v || forkedAt k v x
 
 -- the table has, at the leaf, the worlds that occur on its path
 pub record Seen (t : List Node) (k : Option Fork) (table : List ℕ) (leaf : ℕ) : Type 0 where
-  pub low : leaf < 512
+  pub low : leaf < mostIdentifiers
   pub same : (v : ℕ) → v < 32 → bitOf (getD table leaf 0) v ≡ occurs t k (path t leaf) v

@@ -7,6 +7,13 @@ use bits::with_bit;
 use formula::FormulaNumber;
 use graph::PossibleWorld;
 use graph::vertices::vertex_at;
+use limits::Edges;
+use limits::GRAPH_WIDTH;
+use limits::Leaves;
+use limits::MOST_IDENTIFIERS;
+use limits::Nodes;
+use limits::Numbers;
+use limits::Worlds;
 use tree::Chain;
 use tree::IssuedChain;
 use tree::ProofTreeNodeID;
@@ -21,6 +28,7 @@ ghost use mathlib.Core.List.{List, [], _++_, map};
 ghost use Prim.Native.Nat.{ℕ, _≤_, _<_, _+_};
 ghost use lib.Dec.{eqb};
 ghost use lib.ListN.{length, getD, set};
+ghost use Rattle.definition.specs.Limits.{mostIdentifiers};
 ghost use Rattle.arrays.specs.Listed.{Listed};
 ghost use Rattle.bits.specs.Bits.{bitOf};
 ghost use Rattle.definition.specs.Lists.{Each, elem, filter};
@@ -45,17 +53,17 @@ pub struct Forking {
 }
 
 // Row k of a table of bits has y.
-fn row_contains(words: &[u32; 8192], k: usize, y: ProofTreeNodeID) -> bool
+fn row_contains(words: &Leaves, k: usize, y: ProofTreeNodeID) -> bool
     ensures { λ r. ⌜ ((l : List ℕ) → InRow k l (now (words .entry)) → r ≡ elem (y .0) l) ⌝ }
 {
     let at = y.0 as usize;
-    if 512 <= k {
+    if MOST_IDENTIFIERS <= k {
         return false;
     }
-    if 512 <= at {
+    if MOST_IDENTIFIERS <= at {
         return false;
     }
-    bits::contains(words, k * 512 + at)
+    bits::contains(words, k * MOST_IDENTIFIERS + at)
 }
 
 // The word has the bit of y.
@@ -69,7 +77,7 @@ fn word_contains(word: u32, y: PossibleWorld) -> bool
 }
 
 // The parent of x in the tree as it stood, when it had `base` nodes.
-fn parent_before(tree: &[u16; 4608], base: usize, x: ProofTreeNodeID) -> ProofTreeNodeID
+fn parent_before(tree: &Nodes, base: usize, x: ProofTreeNodeID) -> ProofTreeNodeID
     ensures { λ r. ⌜ ((t : List Node) → Stands t base (now (tree .entry)) → r .0 ≡ nodeAt t (x .0) .parent) ⌝ }
 {
     if base <= x.0 as usize {
@@ -78,7 +86,7 @@ fn parent_before(tree: &[u16; 4608], base: usize, x: ProofTreeNodeID) -> ProofTr
     parent_of(tree, x)
 }
 
-fn world_before(tree: &[u16; 4608], base: usize, x: ProofTreeNodeID) -> PossibleWorld
+fn world_before(tree: &Nodes, base: usize, x: ProofTreeNodeID) -> PossibleWorld
     ensures { λ r. ⌜ ((t : List Node) → Stands t base (now (tree .entry)) → r .0 ≡ nodeAt t (x .0) .world) ⌝ }
 {
     if base <= x.0 as usize {
@@ -89,9 +97,9 @@ fn world_before(tree: &[u16; 4608], base: usize, x: ProofTreeNodeID) -> Possible
 
 // The path runs through a leaf stored in row k.
 fn path_runs_through(
-    tree: &[u16; 4608],
+    tree: &Nodes,
     base: usize,
-    leafs: &[u32; 8192],
+    leafs: &Leaves,
     k: usize,
     leaf: ProofTreeNodeID,
 ) -> bool
@@ -113,12 +121,7 @@ fn path_runs_through(
 }
 
 // The path goes through node x.
-fn path_goes_through(
-    tree: &[u16; 4608],
-    base: usize,
-    x: ProofTreeNodeID,
-    leaf: ProofTreeNodeID,
-) -> bool
+fn path_goes_through(tree: &Nodes, base: usize, x: ProofTreeNodeID, leaf: ProofTreeNodeID) -> bool
     ensures { λ r. ⌜ ((t : List Node) → Stands t base (now (tree .entry)) → r ≡ elem (x .0) (path t (leaf .0))) ⌝ }
 {
     let mut cur = leaf;
@@ -138,16 +141,16 @@ fn path_goes_through(
 
 // Of the listed leaves, those whose paths run through a leaf stored in row k.
 pub fn leaves_of(
-    tree: &[u16; 4608],
+    tree: &Nodes,
     base: usize,
-    leafs: &[u32; 8192],
+    leafs: &Leaves,
     k: usize,
-    list: &[u16; 512],
+    list: &Numbers,
     m: usize,
-    out: &mut [u16; 512],
+    out: &mut Numbers,
     c: usize,
 ) -> usize
-    ensures { λ r. ⌜ ((t : List Node) (n : Necessity) (ls l : List ℕ) → Stands t base (now (tree .entry)) → InRow k (n .leaves) (now (leafs .entry)) → Listed ls m (now (list .entry)) → m ≤ 512
+    ensures { λ r. ⌜ ((t : List Node) (n : Necessity) (ls l : List ℕ) → Stands t base (now (tree .entry)) → InRow k (n .leaves) (now (leafs .entry)) → Listed ls m (now (list .entry)) → m ≤ mostIdentifiers
         → Listed l c (now (out .entry)) → Listed (l ++ filter (λ leaf. runsThrough n (path t leaf)) ls) r (now (out .exit))) ⌝ }
 {
     let mut n = c;
@@ -162,7 +165,7 @@ pub fn leaves_of(
 }
 
 // Node x is in the tree as it stood.
-fn is_placed_before(tree: &[u16; 4608], base: usize, x: ProofTreeNodeID) -> bool
+fn is_placed_before(tree: &Nodes, base: usize, x: ProofTreeNodeID) -> bool
     ensures { λ r. ⌜ ((t : List Node) → Stands t base (now (tree .entry)) → r ≡ placed (nodeAt t (x .0) .place)) ⌝ }
 {
     if base <= x.0 as usize {
@@ -175,12 +178,7 @@ fn is_placed_before(tree: &[u16; 4608], base: usize, x: ProofTreeNodeID) -> bool
 }
 
 // The leaves whose paths go through node x: those at and below it, if it is in the tree.
-pub fn leaves_through(
-    tree: &[u16; 4608],
-    base: usize,
-    x: ProofTreeNodeID,
-    out: &mut [u16; 512],
-) -> usize
+pub fn leaves_through(tree: &Nodes, base: usize, x: ProofTreeNodeID, out: &mut Numbers) -> usize
     ensures { λ r. ⌜ ((t : List Node) → Treed t → Stands t base (now (tree .entry)) → Listed [] 0 (now (out .entry)) → Listed (filter (λ leaf. elem (x .0) (path t leaf)) (leaves t)) r (now (out .exit))) ⌝ }
 {
     if is_placed_before(tree, base, x) {
@@ -191,7 +189,7 @@ pub fn leaves_through(
 
 // A path of the necessity goes through the forking node: both are in the tree, and one stands above the other.
 pub fn is_reapplied(
-    tree: &[u16; 4608],
+    tree: &Nodes,
     base: usize,
     node: ProofTreeNodeID,
     spawner: ProofTreeNodeID,
@@ -228,13 +226,7 @@ fn forks_at(forking: Forking, x: ProofTreeNodeID) -> bool
 }
 
 // The word with the worlds that node x brings to its paths: its own, and the new world if it is the forking node.
-fn with_worlds(
-    tree: &[u16; 4608],
-    base: usize,
-    forking: Forking,
-    word: u32,
-    x: ProofTreeNodeID,
-) -> u32
+fn with_worlds(tree: &Nodes, base: usize, forking: Forking, word: u32, x: ProofTreeNodeID) -> u32
     ensures { λ r. ⌜ ((t : List Node) → Stands t base (now (tree .entry)) → (v : ℕ) → v < 32 → bitOf r v ≡ (brings t (forkOf forking) v (x .0) || bitOf word v)) ⌝ }
 {
     let here = with_world(word, world_before(tree, base, x));
@@ -246,7 +238,7 @@ fn with_worlds(
 }
 
 // The worlds that occur on the path of a leaf; the new world of a fork does on the paths through the forking node.
-fn worlds_on(tree: &[u16; 4608], base: usize, forking: Forking, leaf: ProofTreeNodeID) -> u32
+fn worlds_on(tree: &Nodes, base: usize, forking: Forking, leaf: ProofTreeNodeID) -> u32
     ensures { λ r. ⌜ ((t : List Node) → Stands t base (now (tree .entry)) → (v : ℕ) → v < 32 → bitOf r v ≡ occurs t (forkOf forking) (path t (leaf .0)) v) ⌝ }
 {
     let mut word: u32 = 0;
@@ -264,11 +256,11 @@ fn worlds_on(tree: &[u16; 4608], base: usize, forking: Forking, leaf: ProofTreeN
 }
 
 // Stores the word of leaf x.
-fn put_word(seen: &mut [u32; 512], x: ProofTreeNodeID, word: u32)
-    ensures { λ r. ⌜ (x .0 < 512 → now (seen .exit) ≡ set (now (seen .entry)) (x .0) word) × (512 ≤ x .0 → now (seen .exit) ≡ now (seen .entry)) ⌝ }
+fn put_word(seen: &mut Worlds, x: ProofTreeNodeID, word: u32)
+    ensures { λ r. ⌜ (x .0 < mostIdentifiers → now (seen .exit) ≡ set (now (seen .entry)) (x .0) word) × (mostIdentifiers ≤ x .0 → now (seen .exit) ≡ now (seen .entry)) ⌝ }
 {
     let i = x.0 as usize;
-    if 512 <= i {
+    if MOST_IDENTIFIERS <= i {
         return;
     }
     seen[i] = word;
@@ -276,16 +268,16 @@ fn put_word(seen: &mut [u32; 512], x: ProofTreeNodeID, word: u32)
 
 // Stores the worlds that occur on the paths of the listed leaves, each at its leaf. The other entries stay.
 pub fn worlds_on_paths(
-    tree: &[u16; 4608],
+    tree: &Nodes,
     base: usize,
     forking: Forking,
-    on: &[u16; 512],
+    on: &Numbers,
     m: usize,
-    seen: &mut [u32; 512],
+    seen: &mut Worlds,
 )
-    ensures { λ r. ⌜ ((t : List Node) (ls : List ℕ) → Stands t base (now (tree .entry)) → Listed ls m (now (on .entry)) → m ≤ 512 → Each (λ l. l < 512) ls → length (now (seen .entry)) ≡ 512
+    ensures { λ r. ⌜ ((t : List Node) (ls : List ℕ) → Stands t base (now (tree .entry)) → Listed ls m (now (on .entry)) → m ≤ mostIdentifiers → Each (λ l. l < mostIdentifiers) ls → length (now (seen .entry)) ≡ mostIdentifiers
         → Each (Seen t (forkOf forking) (now (seen .exit))) ls)
-        × ((ls : List ℕ) → Listed ls m (now (on .entry)) → m ≤ 512 → (x : ℕ) → elem x ls ≡ false → getD (now (seen .exit)) x 0 ≡ getD (now (seen .entry)) x 0) ⌝ }
+        × ((ls : List ℕ) → Listed ls m (now (on .entry)) → m ≤ mostIdentifiers → (x : ℕ) → elem x ls ≡ false → getD (now (seen .exit)) x 0 ≡ getD (now (seen .entry)) x 0) ⌝ }
 {
     for j in 0..m {
         let leaf = ProofTreeNodeID(nth(on, j));
@@ -295,7 +287,7 @@ pub fn worlds_on_paths(
 }
 
 // u reaches v, and v is not one of the worlds visited.
-fn is_unvisited(edges: &[u8; 625], visited: u32, u: PossibleWorld, v: PossibleWorld) -> bool
+fn is_unvisited(edges: &Edges, visited: u32, u: PossibleWorld, v: PossibleWorld) -> bool
     ensures { λ r. ⌜ ((g : Graph) (w : ℕ) (l : List ℕ) → Drawn g w (now (edges .entry)) → InWord l visited → r ≡ (edge g (u .0) (v .0) && not (elem (v .0) l))) ⌝ }
 {
     graph::contains(edges, u, v) && !word_contains(visited, v)
@@ -303,17 +295,17 @@ fn is_unvisited(edges: &[u8; 625], visited: u32, u: PossibleWorld, v: PossibleWo
 
 // The worlds that u reaches and that are not visited, rising.
 pub fn unvisited(
-    edges: &[u8; 625],
+    edges: &Edges,
     worlds: usize,
     visited: u32,
     u: PossibleWorld,
-    out: &mut [u16; 512],
+    out: &mut Numbers,
     c: usize,
 ) -> usize
     ensures { λ r. ⌜ ((g : Graph) (n : Necessity) (l : List ℕ) → n .world ≡ u .0 → Drawn g worlds (now (edges .entry)) → InWord (n .visited) visited → Listed l c (now (out .entry)) → Listed (l ++ unvisited g n) r (now (out .exit))) ⌝ }
 {
     let from = u.0 as usize;
-    if 25 < worlds {
+    if GRAPH_WIDTH < worlds {
         return c;
     }
     if worlds <= from {
@@ -322,7 +314,7 @@ pub fn unvisited(
     let mut n = c;
     let mut v: usize = 0;
     while v < worlds {
-        let step = vertex_at(from * 25 + v);
+        let step = vertex_at(from * GRAPH_WIDTH + v);
         let gives = is_unvisited(edges, visited, step.from, step.to);
         n = push_if(out, n, step.to.0, gives);
         v += 1;
@@ -332,15 +324,15 @@ pub fn unvisited(
 
 // On one path: a node for each of the worlds that is among those that occur there, each below the last one.
 pub fn give_on_leaf(
-    tree: &mut [u16; 4608],
+    tree: &mut Nodes,
     len: usize,
     spawner: ProofTreeNodeID,
     formula: FormulaNumber,
     here: u32,
-    worlds: &[u16; 512],
+    worlds: &Numbers,
     m: usize,
 ) -> IssuedChain
-    ensures { λ r. ⌜ DrawnFrom len r × ((ns : List Node) (p : ℕ → Bool) (ws : List ℕ) → Listed ws m (now (worlds .entry)) → m ≤ 512 → Each (λ v. v < 32) ws → ((v : ℕ) → v < 32 → bitOf here v ≡ p v)
+    ensures { λ r. ⌜ DrawnFrom len r × ((ns : List Node) (p : ℕ → Bool) (ws : List ℕ) → Listed ws m (now (worlds .entry)) → m ≤ mostIdentifiers → Each (λ v. v < 32) ws → ((v : ℕ) → v < 32 → bitOf here v ≡ p v)
         → Held ns len (now (tree .entry)) → Held (ns ++ map (newNode (spawner .0) (formula .0)) (filter p ws)) (r .len) (now (tree .exit))) ⌝ }
 {
     let mut given = IssuedChain {

@@ -9,6 +9,8 @@ use native.Mathlib.Omega.{arith}
 use lib.ListN.{length, getD, set, replicate, length-append, length-set, length-reverse, length-replicate}
 use lib.Seq.{getD-set-same, getD-set-other}
 use lib.Dec.{eqb}
+use Rattle.definition.specs.Limits.{mostIdentifiers}
+use Rattle.limits.specs.Arrays.{necessityFields, necessityCells, leafWords}
 use Rattle.arrays.specs.Listed.{Listed}
 use Rattle.arrays.proofs.Listed.{listed-none, listed-count, listed-fits}
 use Rattle.bits.specs.Bits.{Bits}
@@ -27,7 +29,7 @@ use Rattle.necessities.proofs.Turned.{get-reverse}
 
 -- from r to t the numbers of every row but row k stay
 abbrev pub NumbersKept : ℕ → List ℕ → List ℕ → Type 0
-NumbersKept k r t = (p : ℕ) → p / 3 ≢ k → getD t p 0 ≡ getD r p 0
+NumbersKept k r t = (p : ℕ) → p / necessityFields ≢ k → getD t p 0 ≡ getD r p 0
 
 -- from v to u every word but word k stays
 abbrev WordsKept : ℕ → List ℕ → List ℕ → Type 0
@@ -38,9 +40,9 @@ module _ (k : ℕ) (r a v r′ a′ v′ : List ℕ) (numbers : NumbersKept k r 
   row-other : (n : Necessity) (j : ℕ) → j ≢ k → Row n j r a v → Row n j r′ a′ v′
   row-other n j e h =
       record {
-        formula = numbers (j * 3) (λ s. e (omega arith)) ∙ h .formula;
-        world = numbers (j * 3 + 1) (λ s. e (omega arith)) ∙ h .world;
-        spawner = numbers (j * 3 + 2) (λ s. e (omega arith)) ∙ h .spawner;
+        formula = numbers (j * necessityFields) (λ s. e (omega arith)) ∙ h .formula;
+        world = numbers (j * necessityFields + 1) (λ s. e (omega arith)) ∙ h .world;
+        spawner = numbers (j * necessityFields + 2) (λ s. e (omega arith)) ∙ h .spawner;
         leaves = leaves .others j (n .leaves) e (h .leaves);
         worlds = rw (worlds j e) (h .worlds);
       }
@@ -52,7 +54,7 @@ module _ (k : ℕ) (r a v r′ a′ v′ : List ℕ) (numbers : NumbersKept k r 
   rows-other (n ∷ ns) (j ∷ ks) e h = (row-other n j (e .0) (h .0), rows-other ns ks (e .1) (h .1))
 
 -- ---- the empty stack
-pub stack-none : Stack [] 0 (replicate 512 0) (replicate 1536 0) (replicate 8192 0) (replicate 512 0)
+pub stack-none : Stack [] 0 (replicate mostIdentifiers 0) (replicate necessityCells 0) (replicate leafWords 0) (replicate mostIdentifiers 0)
 stack-none =
     record {
       ks = [];
@@ -62,13 +64,13 @@ stack-none =
       used = tt;
       apart = tt;
       stored = tt;
-      rowsLong = length-replicate {A = ℕ} 1536 0;
-      leavesLong = length-replicate {A = ℕ} 8192 0;
-      visitedLong = length-replicate {A = ℕ} 512 0;
+      rowsLong = length-replicate {A = ℕ} necessityCells 0;
+      leavesLong = length-replicate {A = ℕ} leafWords 0;
+      visitedLong = length-replicate {A = ℕ} mostIdentifiers 0;
     }
 
 -- ---- reads
-pub row-formula : {n : Necessity} {k : ℕ} {r a v : List ℕ} (x : ℕ) → Row n k r a v → (k < 512 → 0 < 3 → x ≡ getD r (k * 3 + 0) 0) → x ≡ n .formula
+pub row-formula : {n : Necessity} {k : ℕ} {r a v : List ℕ} (x : ℕ) → Row n k r a v → (k < mostIdentifiers → 0 < necessityFields → x ≡ getD r (k * necessityFields + 0) 0) → x ≡ n .formula
 row-formula x h read = (rw add-zero at (read (h .leaves .row) (omega arith))) ∙ h .formula
 
 module _ (r a v : List ℕ) where
@@ -99,41 +101,41 @@ module _ {ns : List Necessity} {count : ℕ} {o r a v : List ℕ} (s : Stack ns 
   pub stack-count : length ns ≡ count
   stack-count = rows-count r a v ns (s .ks) (s .stored) ∙ s .counted
 
-  pub stack-read : (i x : ℕ) → i < count → ((l : List ℕ) (n : ℕ) → Listed l n o → n ≤ 512 → x ≡ getD l (count - 1 - i) 0) → x ≡ getD (s .ks) i 0
+  pub stack-read : (i x : ℕ) → i < count → ((l : List ℕ) (n : ℕ) → Listed l n o → n ≤ mostIdentifiers → x ≡ getD l (count - 1 - i) 0) → x ≡ getD (s .ks) i 0
   stack-read i x h nth =
       nth (reverse (s .ks)) count (s .listed) (s .room) ∙ get-reverse (s .ks) i (count - 1 - i) (omega (arith, s .counted))
 
 -- ---- one necessity more, by the callees' contracts
-module _ (k f w x : ℕ) (r : List ℕ) (inside : k < 512) (long : length r ≡ 1536) where
+module _ (k f w x : ℕ) (r : List ℕ) (inside : k < mostIdentifiers) (long : length r ≡ necessityCells) where
   abbrev put : List ℕ
-  put = set (set (set r (k * 3) f) (k * 3 + 1) w) (k * 3 + 2) x
+  put = set (set (set r (k * necessityFields) f) (k * necessityFields + 1) w) (k * necessityFields + 2) x
 
   put-kept : NumbersKept k r put
   put-kept p e =
-      getD-set-other (set (set r (k * 3) f) (k * 3 + 1) w) (k * 3 + 2) p x 0 (λ s. e (omega arith))
-      ∙ getD-set-other (set r (k * 3) f) (k * 3 + 1) p w 0 (λ s. e (omega arith))
-      ∙ getD-set-other r (k * 3) p f 0 (λ s. e (omega arith))
+      getD-set-other (set (set r (k * necessityFields) f) (k * necessityFields + 1) w) (k * necessityFields + 2) p x 0 (λ s. e (omega arith))
+      ∙ getD-set-other (set r (k * necessityFields) f) (k * necessityFields + 1) p w 0 (λ s. e (omega arith))
+      ∙ getD-set-other r (k * necessityFields) p f 0 (λ s. e (omega arith))
 
-  put-long : length put ≡ 1536
+  put-long : length put ≡ necessityCells
   put-long = simp length-set long
 
-  put-formula : getD put (k * 3) 0 ≡ f
+  put-formula : getD put (k * necessityFields) 0 ≡ f
   put-formula =
-      getD-set-other (set (set r (k * 3) f) (k * 3 + 1) w) (k * 3 + 2) (k * 3) x 0 (λ s. omega arith)
-      ∙ getD-set-other (set r (k * 3) f) (k * 3 + 1) (k * 3) w 0 (λ s. omega arith)
-      ∙ getD-set-same r (k * 3) f 0 (omega arith)
+      getD-set-other (set (set r (k * necessityFields) f) (k * necessityFields + 1) w) (k * necessityFields + 2) (k * necessityFields) x 0 (λ s. omega arith)
+      ∙ getD-set-other (set r (k * necessityFields) f) (k * necessityFields + 1) (k * necessityFields) w 0 (λ s. omega arith)
+      ∙ getD-set-same r (k * necessityFields) f 0 (omega arith)
 
-  put-world : getD put (k * 3 + 1) 0 ≡ w
+  put-world : getD put (k * necessityFields + 1) 0 ≡ w
   put-world =
-      getD-set-other (set (set r (k * 3) f) (k * 3 + 1) w) (k * 3 + 2) (k * 3 + 1) x 0 (λ s. omega arith)
-      ∙ getD-set-same (set r (k * 3) f) (k * 3 + 1) w 0 (simp length-set (omega arith))
+      getD-set-other (set (set r (k * necessityFields) f) (k * necessityFields + 1) w) (k * necessityFields + 2) (k * necessityFields + 1) x 0 (λ s. omega arith)
+      ∙ getD-set-same (set r (k * necessityFields) f) (k * necessityFields + 1) w 0 (simp length-set (omega arith))
 
-  put-spawner : getD put (k * 3 + 2) 0 ≡ x
-  put-spawner = getD-set-same (set (set r (k * 3) f) (k * 3 + 1) w) (k * 3 + 2) x 0 (simp length-set (omega arith))
+  put-spawner : getD put (k * necessityFields + 2) 0 ≡ x
+  put-spawner = getD-set-same (set (set r (k * necessityFields) f) (k * necessityFields + 1) w) (k * necessityFields + 2) x 0 (simp length-set (omega arith))
 
-pub stack-store : {ns : List Necessity} {count : ℕ} {o r a v o′ r′ a₁ a₂ v′ l : List ℕ} (f w x c : ℕ) → Stack ns count o r a v → count < 512
-    → (count < 512 → r′ ≡ set (set (set r (count * 3) f) (count * 3 + 1) w) (count * 3 + 2) x)
-    → ((p : ℕ → Bool) → Bits p a → Bits (λ j. not (eqb (j / 512) count) && p j) a₁)
+pub stack-store : {ns : List Necessity} {count : ℕ} {o r a v o′ r′ a₁ a₂ v′ l : List ℕ} (f w x c : ℕ) → Stack ns count o r a v → count < mostIdentifiers
+    → (count < mostIdentifiers → r′ ≡ set (set (set r (count * necessityFields) f) (count * necessityFields + 1) w) (count * necessityFields + 2) x)
+    → ((p : ℕ → Bool) → Bits p a → Bits (λ j. not (eqb (j / mostIdentifiers) count) && p j) a₁)
     → Added count l a₁ a₂
     → v′ ≡ set v count 0
     → ((u : List ℕ) → Listed u count o → Listed (u ++ (count ∷ [])) c o′)
@@ -144,7 +146,7 @@ stack-store {ns} {count} {o} {r} {a} {v} {o′} {r′} {a₁} {a₂} {v′} {l} 
     let q : r′ ≡ put n f w x r h (s .rowsLong) = rowed h in
     let order : Listed (reverse (s .ks) ++ (n ∷ [])) c o′ = pushed (reverse (s .ks)) (s .listed) in
     let long : length (reverse (s .ks) ++ (n ∷ [])) ≡ n + 1 = length-append (reverse (s .ks)) (n ∷ []) ∙ ap (λ (k : ℕ). k + 1) (length-reverse (s .ks) ∙ s .counted) in
-    let fits : c ≤ 512 = listed-fits order (omega arith) in
+    let fits : c ≤ mostIdentifiers = listed-fits order (omega arith) in
     let more : c ≡ n + 1 = sym (listed-count order fits) ∙ long in
     let free : Each (λ j. j ≢ n) (s .ks) = each-map {Q = λ j. j ≢ n} (λ j (b : j < n) e. omega arith) (s .ks) (s .used) in
     let kept : Kept n a a₂ = kept-then (clear-kept n a a₁ cleared) (filled .kept) in
@@ -173,7 +175,7 @@ stack-store {ns} {count} {o} {r} {a} {v} {o′} {r′} {a₁} {a₂} {v′} {l} 
     }
 
 -- ---- more worlds visited
-module _ (r a v l : List ℕ) (word : ℕ) (long : length v ≡ 512) (none : Necessity) where
+module _ (r a v l : List ℕ) (word : ℕ) (long : length v ≡ mostIdentifiers) (none : Necessity) where
   row-visits : (n : Necessity) (k : ℕ) → (InWord (n .visited) (getD v k 0) → InWord (n .visited ++ l) word) → Row n k r a v → Row (visits n l) k r a (set v k word)
   unfolding visits
   row-visits n k p h =
@@ -196,7 +198,7 @@ module _ (r a v l : List ℕ) (word : ℕ) (long : length v ≡ 512) (none : Nec
       (row-other j r a v r a (set v j word) (λ q e. refl) (kept-same j a) (words-other j) n k (λ q. e (sym q)) (h .0), rows-visit ns ks i (omega arith) (d .1) p (h .1))
 
 module _ {ns : List Necessity} {count : ℕ} {o r a v : List ℕ} (i k : ℕ) (none : Necessity) (s : Stack ns count o r a v) (low : i < count) (is : k ≡ getD (s .ks) i 0) where
-  pub visit-inside : k < 512
+  pub visit-inside : k < mostIdentifiers
   visit-inside = rw is (stack-row s none i low .leaves .row)
 
   pub stack-visit : (l : List ℕ) (word : ℕ) → ((old : List ℕ) → InWord old (getD v k 0) → InWord (old ++ l) word) → Stack (set ns i (visits (getD ns i none) l)) count o r a (set v k word)

@@ -4,6 +4,7 @@ use mathlib.Core.Path.{_≡_, sym, ap, _∙_}
 use mathlib.Core.List.{List, [], _∷_, _++_, reverse, reverseAux}
 use native.Mathlib.Omega.{arith}
 use lib.ListN.{length, getD, set, take, drop, length-reverse}
+use Rattle.definition.specs.Limits.{mostIdentifiers}
 use Rattle.arrays.specs.Data.{pad}
 use Rattle.arrays.specs.Listed.{Listed, listed, tooLong}
 use Rattle.arrays.proofs.Laws.{getD-pad, length-pad, part-step, part-whole, drop-pads}
@@ -22,26 +23,26 @@ get-reverse l i j e = get-onto l [] i j e
 
 -- the array w of the list is turned from the front: its first i entries are the reversed list's
 abbrev pub Turning : List ℕ → ℕ → List ℕ → List ℕ → Type 0
-Turning l i w a = a ≡ take i (pad 512 (reverse l)) ++ drop i w
+Turning l i w a = a ≡ take i (pad mostIdentifiers (reverse l)) ++ drop i w
 
-pub turn-next : {l : List ℕ} {n : ℕ} {w a : List ℕ} (i x : ℕ) → Listed l n w → n ≤ 512 → i < n → x ≡ getD w (n - 1 - i) 0 → Turning l i w a → Turning l (i + 1) w (set a i x)
+pub turn-next : {l : List ℕ} {n : ℕ} {w a : List ℕ} (i x : ℕ) → Listed l n w → n ≤ mostIdentifiers → i < n → x ≡ getD w (n - 1 - i) 0 → Turning l i w a → Turning l (i + 1) w (set a i x)
 turn-next {l} {n} {w} {a} i x (listed b e q) h r s t =
-    let long : length w ≡ 512 = ap length q ∙ length-pad 512 l (omega arith) in
-    let turned : length (pad 512 (reverse l)) ≡ 512 = length-pad 512 (reverse l) (omega (arith, length-reverse l)) in
-    let at : x ≡ getD (pad 512 (reverse l)) i 0 =
-    s ∙ ap (λ (v : List ℕ). getD v (n - 1 - i) 0) q ∙ getD-pad 512 l (n - 1 - i) ∙ sym (getD-pad 512 (reverse l) i ∙ get-reverse l (n - 1 - i) i (omega arith)) in
-    ap (λ (v : List ℕ). set v i x) t ∙ part-step (pad 512 (reverse l)) w (turned ∙ sym long) i x (omega arith) at
+    let long : length w ≡ mostIdentifiers = ap length q ∙ length-pad mostIdentifiers l (omega arith) in
+    let turned : length (pad mostIdentifiers (reverse l)) ≡ mostIdentifiers = length-pad mostIdentifiers (reverse l) (omega (arith, length-reverse l)) in
+    let at : x ≡ getD (pad mostIdentifiers (reverse l)) i 0 =
+    s ∙ ap (λ (v : List ℕ). getD v (n - 1 - i) 0) q ∙ getD-pad mostIdentifiers l (n - 1 - i) ∙ sym (getD-pad mostIdentifiers (reverse l) i ∙ get-reverse l (n - 1 - i) i (omega arith)) in
+    ap (λ (v : List ℕ). set v i x) t ∙ part-step (pad mostIdentifiers (reverse l)) w (turned ∙ sym long) i x (omega arith) at
 turn-next i x (tooLong b e) h r s t = absurd (omega arith)
 
-pub turn-end : {l : List ℕ} {n : ℕ} {w a : List ℕ} (i : ℕ) → Listed l n w → n ≤ 512 → i ≤ n → n ≤ i → Turning l i w a → Listed (reverse l) n a
+pub turn-end : {l : List ℕ} {n : ℕ} {w a : List ℕ} (i : ℕ) → Listed l n w → n ≤ mostIdentifiers → i ≤ n → n ≤ i → Turning l i w a → Listed (reverse l) n a
 turn-end {l} {n} {w} {a} i (listed b e q) h u o t =
     let c : length (reverse l) ≡ n = length-reverse l ∙ e in
-    let long : length w ≡ 512 = ap length q ∙ length-pad 512 l (omega arith) in
-    let turned : length (pad 512 (reverse l)) ≡ 512 = length-pad 512 (reverse l) (omega arith) in
-    let rest : drop i (pad 512 (reverse l)) ≡ drop i w = drop-pads 512 i (reverse l) l (omega arith) (omega arith) (omega arith) ∙ ap (drop i) (sym q) in
-    listed b c (t ∙ part-whole (pad 512 (reverse l)) w (turned ∙ sym long) i rest)
+    let long : length w ≡ mostIdentifiers = ap length q ∙ length-pad mostIdentifiers l (omega arith) in
+    let turned : length (pad mostIdentifiers (reverse l)) ≡ mostIdentifiers = length-pad mostIdentifiers (reverse l) (omega arith) in
+    let rest : drop i (pad mostIdentifiers (reverse l)) ≡ drop i w = drop-pads mostIdentifiers i (reverse l) l (omega arith) (omega arith) (omega arith) ∙ ap (drop i) (sym q) in
+    listed b c (t ∙ part-whole (pad mostIdentifiers (reverse l)) w (turned ∙ sym long) i rest)
 turn-end i (tooLong b e) h u o t = absurd (omega arith)
 
-pub turn-full : {l : List ℕ} {n : ℕ} {a b : List ℕ} → Listed l n a → 512 < n → Listed (reverse l) n b
+pub turn-full : {l : List ℕ} {n : ℕ} {a b : List ℕ} → Listed l n a → mostIdentifiers < n → Listed (reverse l) n b
 turn-full (listed b e q) h = absurd (omega arith)
 turn-full {l} (tooLong b e) h = tooLong b (omega (arith, length-reverse l))

@@ -9,6 +9,7 @@ use lib.ListN.{length, getD, take}
 use lib.Seq.{take-suc, take-all}
 use lib.Dec.{eqb, ltb}
 use borrow.Author.Tests.{ne-eqb, lt-ltb, le-ltb, ltb-true, ltb-false}
+use Rattle.definition.specs.Limits.{mostIdentifiers}
 use Rattle.arrays.specs.Listed.{Listed}
 use Rattle.arrays.proofs.Listed.{listed-count}
 use Rattle.bits.specs.Bits.{bitOf}
@@ -54,7 +55,7 @@ pub word-zero : InWord [] 0
 word-zero = in-word [] 0 (λ y h. no-bit y) (λ y h. refl)
 
 -- ---- the listed numbers, one after the other
-module _ (old : List ℕ) {l a : List ℕ} {m : ℕ} (p : Listed l m a) (n : m ≤ 512) where
+module _ (old : List ℕ) {l a : List ℕ} {m : ℕ} (p : Listed l m a) (n : m ≤ mostIdentifiers) where
   pub words-next : (w v i x : ℕ) → i < m → Each (λ y. y < 32) l → x ≡ getD l i 0
       → ((k : ℕ) → k < 32 → bitOf v k ≡ (eqb k (x % 32) || bitOf w k)) → InWord (old ++ take i l) w → InWord (old ++ take (i + 1) l) v
   words-next w v i x h small e put d =

@@ -7,11 +7,21 @@ use bits::insert;
 use bits::with_bit;
 use formula::FormulaNumber;
 use graph::PossibleWorld;
+use limits::FULL;
+use limits::Leaves;
+use limits::MOST_IDENTIFIERS;
+use limits::NECESSITY_FIELDS;
+use limits::Necessities;
+use limits::Numbers;
+use limits::Order;
+use limits::Worlds;
 use tree::ProofTreeNodeID;
 ghost use mathlib.Core.Path.{_≡_};
 ghost use mathlib.Core.List.{List, _∷_, _++_, reverse};
 ghost use Prim.Native.Nat.{ℕ, _+_, _*_, _≤_, _<_};
 ghost use lib.ListN.{getD, set};
+ghost use Rattle.definition.specs.Limits.{mostIdentifiers};
+ghost use Rattle.limits.specs.Arrays.{necessityFields};
 ghost use Rattle.arrays.specs.Listed.{Listed};
 ghost use Rattle.definition.specs.Lists.{Each};
 ghost use Rattle.definition.specs.Modality.{Necessity};
@@ -20,41 +30,41 @@ ghost use Rattle.necessities.specs.Change.{Added};
 ghost use Rattle.necessities.specs.Stack.{Stack, fresh, visits};
 
 // Number j of row k.
-fn number(rows: &[u16; 1536], k: usize, j: usize) -> u16
-    ensures { λ r. ⌜ (k < 512 → j < 3 → r ≡ getD (now (rows .entry)) (k * 3 + j) 0) ⌝ }
+fn number(rows: &Necessities, k: usize, j: usize) -> u16
+    ensures { λ r. ⌜ (k < mostIdentifiers → j < necessityFields → r ≡ getD (now (rows .entry)) (k * necessityFields + j) 0) ⌝ }
 {
-    if 512 <= k {
+    if MOST_IDENTIFIERS <= k {
         return 0;
     }
-    if 3 <= j {
+    if NECESSITY_FIELDS <= j {
         return 0;
     }
-    rows[k * 3 + j]
+    rows[k * NECESSITY_FIELDS + j]
 }
 
-pub fn formula_at(rows: &[u16; 1536], k: usize) -> FormulaNumber
+pub fn formula_at(rows: &Necessities, k: usize) -> FormulaNumber
     ensures { λ r. ⌜ ((n : Necessity) (leafBits visited : List ℕ) → Row n k (now (rows .entry)) leafBits visited → r .0 ≡ n .formula) ⌝ }
 {
     FormulaNumber(number(rows, k, 0))
 }
 
-pub fn world_at(rows: &[u16; 1536], k: usize) -> PossibleWorld
+pub fn world_at(rows: &Necessities, k: usize) -> PossibleWorld
     ensures { λ r. ⌜ ((n : Necessity) (leafBits visited : List ℕ) → Row n k (now (rows .entry)) leafBits visited → r .0 ≡ n .world) ⌝ }
 {
     PossibleWorld(number(rows, k, 1))
 }
 
-pub fn spawner_at(rows: &[u16; 1536], k: usize) -> ProofTreeNodeID
+pub fn spawner_at(rows: &Necessities, k: usize) -> ProofTreeNodeID
     ensures { λ r. ⌜ ((n : Necessity) (leafBits visited : List ℕ) → Row n k (now (rows .entry)) leafBits visited → r .0 ≡ n .spawner) ⌝ }
 {
     ProofTreeNodeID(number(rows, k, 2))
 }
 
 // The worlds that the necessity of row k has visited, one bit each.
-pub fn visited_at(visited: &[u32; 512], k: usize) -> u32
+pub fn visited_at(visited: &Worlds, k: usize) -> u32
     ensures { λ r. ⌜ ((n : Necessity) (rows leafBits : List ℕ) → Row n k rows leafBits (now (visited .entry)) → InWord (n .visited) r) ⌝ }
 {
-    if 512 <= k {
+    if MOST_IDENTIFIERS <= k {
         return 0;
     }
     visited[k]
@@ -62,37 +72,37 @@ pub fn visited_at(visited: &[u32; 512], k: usize) -> u32
 
 // Stores the numbers of row k.
 fn put_row(
-    rows: &mut [u16; 1536],
+    rows: &mut Necessities,
     k: usize,
     formula: FormulaNumber,
     world: PossibleWorld,
     spawner: ProofTreeNodeID,
 )
-    ensures { λ r. ⌜ (k < 512 → now (rows .exit) ≡ set (set (set (now (rows .entry)) (k * 3) (formula .0)) (k * 3 + 1) (world .0)) (k * 3 + 2) (spawner .0)) ⌝ }
+    ensures { λ r. ⌜ (k < mostIdentifiers → now (rows .exit) ≡ set (set (set (now (rows .entry)) (k * necessityFields) (formula .0)) (k * necessityFields + 1) (world .0)) (k * necessityFields + 2) (spawner .0)) ⌝ }
 {
-    if 512 <= k {
+    if MOST_IDENTIFIERS <= k {
         return;
     }
-    rows[k * 3] = formula.0;
-    rows[k * 3 + 1] = world.0;
-    rows[k * 3 + 2] = spawner.0;
+    rows[k * NECESSITY_FIELDS] = formula.0;
+    rows[k * NECESSITY_FIELDS + 1] = world.0;
+    rows[k * NECESSITY_FIELDS + 2] = spawner.0;
 }
 
 // Puts the listed numbers, each below 512, into row k.
-fn insert_all(words: &mut [u32; 8192], k: usize, list: &[u16; 512], m: usize)
-    ensures { λ r. ⌜ ((l : List ℕ) → Listed l m (now (list .entry)) → m ≤ 512 → Each (λ x. x < 512) l → Added k l (now (words .entry)) (now (words .exit))) ⌝ }
+fn insert_all(words: &mut Leaves, k: usize, list: &Numbers, m: usize)
+    ensures { λ r. ⌜ ((l : List ℕ) → Listed l m (now (list .entry)) → m ≤ mostIdentifiers → Each (λ x. x < mostIdentifiers) l → Added k l (now (words .entry)) (now (words .exit))) ⌝ }
 {
-    if 512 <= k {
+    if MOST_IDENTIFIERS <= k {
         return;
     }
     for i in 0..m {
         let x = nth(list, i) as usize;
-        insert(words, k * 512 + x);
+        insert(words, k * MOST_IDENTIFIERS + x);
     }
 }
 
 // The row of the necessity that stands i below the top.
-pub fn row_at(order: &[u16; 512], count: usize, i: usize) -> usize
+pub fn row_at(order: &Order, count: usize, i: usize) -> usize
     ensures { λ r. ⌜ ((ns : List Necessity) (rows leafBits visited : List ℕ) (s : Stack ns count (now (order .entry)) rows leafBits visited) → i < count → r ≡ getD (s .ks) i 0) ⌝ }
 {
     if count <= i {
@@ -103,23 +113,23 @@ pub fn row_at(order: &[u16; 512], count: usize, i: usize) -> usize
 
 // Pushes a necessity with the listed leaves, which has visited no world; 513 where there is no room.
 pub fn store(
-    order: &mut [u16; 512],
+    order: &mut Order,
     count: usize,
-    rows: &mut [u16; 1536],
-    leaf_bits: &mut [u32; 8192],
-    visited: &mut [u32; 512],
+    rows: &mut Necessities,
+    leaf_bits: &mut Leaves,
+    visited: &mut Worlds,
     formula: FormulaNumber,
     world: PossibleWorld,
     spawner: ProofTreeNodeID,
-    leaves: &[u16; 512],
+    leaves: &Numbers,
     m: usize,
 ) -> usize
-    ensures { λ r. ⌜ ((ns : List Necessity) (l : List ℕ) → Stack ns count (now (order .entry)) (now (rows .entry)) (now («leaf_bits» .entry)) (now (visited .entry)) → count < 512
-        → Listed l m (now (leaves .entry)) → m ≤ 512 → Each (λ x. x < 512) l
+    ensures { λ r. ⌜ ((ns : List Necessity) (l : List ℕ) → Stack ns count (now (order .entry)) (now (rows .entry)) (now («leaf_bits» .entry)) (now (visited .entry)) → count < mostIdentifiers
+        → Listed l m (now (leaves .entry)) → m ≤ mostIdentifiers → Each (λ x. x < mostIdentifiers) l
         → Stack (fresh (formula .0) (world .0) (spawner .0) l ∷ ns) r (now (order .exit)) (now (rows .exit)) (now («leaf_bits» .exit)) (now (visited .exit))) ⌝ }
 {
-    if 512 <= count {
-        return 513;
+    if MOST_IDENTIFIERS <= count {
+        return FULL;
     }
     put_row(rows, count, formula, world, spawner);
     clear_row(leaf_bits, count);
@@ -129,8 +139,8 @@ pub fn store(
 }
 
 // The word with the bits of the listed numbers, each below 32.
-fn with_bits(word: u32, list: &[u16; 512], m: usize) -> u32
-    ensures { λ r. ⌜ ((old l : List ℕ) → Listed l m (now (list .entry)) → m ≤ 512 → Each (λ x. x < 32) l → InWord old word → InWord (old ++ l) r) ⌝ }
+fn with_bits(word: u32, list: &Numbers, m: usize) -> u32
+    ensures { λ r. ⌜ ((old l : List ℕ) → Listed l m (now (list .entry)) → m ≤ mostIdentifiers → Each (λ x. x < 32) l → InWord old word → InWord (old ++ l) r) ⌝ }
 {
     let mut more = word;
     for j in 0..m {
@@ -140,12 +150,12 @@ fn with_bits(word: u32, list: &[u16; 512], m: usize) -> u32
 }
 
 // The necessity of row k, which stands i below the top, has visited the listed worlds too.
-pub fn visit(visited: &mut [u32; 512], k: usize, list: &[u16; 512], m: usize)
+pub fn visit(visited: &mut Worlds, k: usize, list: &Numbers, m: usize)
     ensures { λ r. ⌜ ((ns : List Necessity) (count i : ℕ) (order rows leafBits l : List ℕ) (none : Necessity) (s : Stack ns count order rows leafBits (now (visited .entry))) → i < count → k ≡ getD (s .ks) i 0
-        → Listed l m (now (list .entry)) → m ≤ 512 → Each (λ x. x < 32) l
+        → Listed l m (now (list .entry)) → m ≤ mostIdentifiers → Each (λ x. x < 32) l
         → Stack (set ns i (visits (getD ns i none) l)) count order rows leafBits (now (visited .exit))) ⌝ }
 {
-    if 512 <= k {
+    if MOST_IDENTIFIERS <= k {
         return;
     }
     let word = visited[k];
@@ -153,10 +163,10 @@ pub fn visit(visited: &mut [u32; 512], k: usize, list: &[u16; 512], m: usize)
 }
 
 // The first n entries in the opposite order.
-fn reverse(a: &mut [u16; 512], n: usize)
+fn reverse(a: &mut Numbers, n: usize)
     ensures { λ r. ⌜ ((l : List ℕ) → Listed l n (now (a .entry)) → Listed (reverse l) n (now (a .exit))) ⌝ }
 {
-    if 512 < n {
+    if MOST_IDENTIFIERS < n {
         return;
     }
     let old = *a;
@@ -166,7 +176,7 @@ fn reverse(a: &mut [u16; 512], n: usize)
 }
 
 // The stack turned round.
-pub fn turn(order: &mut [u16; 512], count: usize)
+pub fn turn(order: &mut Order, count: usize)
     ensures { λ r. ⌜ ((ns : List Necessity) (rows leafBits visited : List ℕ) → Stack ns count (now (order .entry)) rows leafBits visited → Stack (reverse ns) count (now (order .exit)) rows leafBits visited) ⌝ }
 {
     reverse(order, count);

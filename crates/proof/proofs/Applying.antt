@@ -5,6 +5,7 @@ use mathlib.Core.Bool.{Bool, true, false, cond, _||_}
 use mathlib.Core.List.{List}
 use mathlib.Core.Option.{Option}
 use lib.ListN.{length}
+use Rattle.definition.specs.Limits.{mostIdentifiers}
 use Rattle.arrays.specs.Listed.{Listed}
 use Rattle.definition.specs.Lists.{all}
 use Rattle.definition.specs.Flags.{Flags}
@@ -32,7 +33,7 @@ asSubtree h = record { left = h .left; middle = h .middle; right = h .right }
 
 pub here-after : (s : State) (x : ℕ) (recs : List Rec) (fs : Subtree) (q : List ℕ) {p : Sizes} {ta tb tc ea ra la va oa wa wb : List ℕ} {h : AppliedHere} {r : Counts} → Before p ta ea ra la va oa wa s q →
     (Held (s .nodes) (p .nodes) ta → Here (s .nodes) x (nodeAt (s .nodes) x .world) fs h tb) →
-    ((ns : List Node) (q : List ℕ) (t : Subtree) → Held ns (h .nodes) tb → (h .nodes ≤ 512 → Listed q (p .waiting) wa) → (length ns ≤ 512 → Chained (asSubtree h) t (length ns)) → (length ns ≤ 512 → Treed ns) → Left (appendSubtree ns q x t) r tc wb) →
+    ((ns : List Node) (q : List ℕ) (t : Subtree) → Held ns (h .nodes) tb → (h .nodes ≤ mostIdentifiers → Listed q (p .waiting) wa) → (length ns ≤ mostIdentifiers → Chained (asSubtree h) t (length ns)) → (length ns ≤ mostIdentifiers → Treed ns) → Left (appendSubtree ns q x t) r tc wb) →
     After (record { nodes = r .nodes; waiting = r .waiting; worlds = p .worlds; necessities = p .necessities }) tc ea ra la va oa wb (applyHere s x recs fs) (placing s q (applyHere s x recs fs))
 unfolding applyHere appendLogicRuleResult subtreeOf
 here-after s x recs fs q b make place =
@@ -72,19 +73,19 @@ after-as s q {p = p} {ta} {ea} {ra} {la} {va} {oa} {wa} e h = subst (λ (r : Log
 -- contradictions
 module _ (F : Flags) (s : State) where
   pub check-skipped : {b proved : Bool} {len : ℕ} {a : List ℕ} → b ≡ F .skip → b ≡ true → proved ≡ s .proved → Held (s .nodes) len a →
-      Held (checkForContradictions F s .nodes) len a × (len ≤ 512 → proved ≡ checkForContradictions F s .proved)
+      Held (checkForContradictions F s .nodes) len a × (len ≤ mostIdentifiers → proved ≡ checkForContradictions F s .proved)
   unfolding checkForContradictions
   check-skipped {proved = proved} {len} {a} e t p h =
-      subst (λ (c : Bool). Held (cond c s (checkedForContradictions s) .nodes) len a × (len ≤ 512 → proved ≡ cond c s (checkedForContradictions s) .proved)) (sym t ∙ e) (h, λ _. p)
+      subst (λ (c : Bool). Held (cond c s (checkedForContradictions s) .nodes) len a × (len ≤ mostIdentifiers → proved ≡ cond c s (checkedForContradictions s) .proved)) (sym t ∙ e) (h, λ _. p)
 
   abbrev found : List (Option Pair)
   found = pairs (s .formulas) (s .nodes) (leaves (s .nodes))
 
-  pub check-made : {b r : Bool} {len : ℕ} {a : List ℕ} → b ≡ F .skip → b ≡ false → Held (markAll (s .nodes) found) len a → (len ≤ 512 → r ≡ (s .proved || all isPair found)) →
-      Held (checkForContradictions F s .nodes) len a × (len ≤ 512 → r ≡ checkForContradictions F s .proved)
+  pub check-made : {b r : Bool} {len : ℕ} {a : List ℕ} → b ≡ F .skip → b ≡ false → Held (markAll (s .nodes) found) len a → (len ≤ mostIdentifiers → r ≡ (s .proved || all isPair found)) →
+      Held (checkForContradictions F s .nodes) len a × (len ≤ mostIdentifiers → r ≡ checkForContradictions F s .proved)
   unfolding checkForContradictions checkedForContradictions
   check-made {r = r} {len} {a} e t h k =
-      subst (λ (c : Bool). Held (cond c s (checkedForContradictions s) .nodes) len a × (len ≤ 512 → r ≡ cond c s (checkedForContradictions s) .proved)) (sym t ∙ e) (h, k)
+      subst (λ (c : Bool). Held (cond c s (checkedForContradictions s) .nodes) len a × (len ≤ mostIdentifiers → r ≡ cond c s (checkedForContradictions s) .proved)) (sym t ∙ e) (h, k)
 
   pub or-yes : (v : Bool) {proved : Bool} → proved ≡ s .proved → proved ≡ true → true ≡ (s .proved || v)
   or-yes v e t = ap (λ (c : Bool). c || v) (sym t ∙ e)

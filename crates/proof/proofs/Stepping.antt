@@ -8,6 +8,7 @@ use native.Mathlib.Omega.{arith}
 use lib.Dec.{leb}
 use borrow.Author.Tests.{leb-true, leb-false}
 use lib.ListN.{length, length-append}
+use Rattle.definition.specs.Limits.{mostIdentifiers, mostFormulas}
 use Rattle.arrays.specs.Listed.{Listed}
 use Rattle.arrays.proofs.Listed.{listed-fits}
 use Rattle.definition.specs.Lists.{Each, empty}
@@ -47,11 +48,11 @@ use Rattle.proof.specs.declared.Progress.{Progress}
 use Rattle.proof.specs.Kept.{Laid, Kept, kept, full}
 use Rattle.proof.proofs.Applying.{after-as}
 
-held-over : {ns : List Node} {len : ℕ} {a : List ℕ} → Held ns len a → 512 < len → 512 < length ns
+held-over : {ns : List Node} {len : ℕ} {a : List ℕ} → Held ns len a → mostIdentifiers < len → mostIdentifiers < length ns
 held-over (held b e q) h = absurd (omega arith)
 held-over (tooMany b e) h = e
 
-pub kept-laid : {s : State} {p : Progress} {fa ta ea ra la va oa wa ca : List ℕ} → Kept s p fa ta ea ra la va oa wa ca → length (s .nodes) ≤ 512 → Laid s p fa ta ea ra la va oa wa ca
+pub kept-laid : {s : State} {p : Progress} {fa ta ea ra la va oa wa ca : List ℕ} → Kept s p fa ta ea ra la va oa wa ca → length (s .nodes) ≤ mostIdentifiers → Laid s p fa ta ea ra la va oa wa ca
 kept-laid (kept k) h = k
 kept-laid (full a b) h = absurd (omega arith)
 
@@ -103,13 +104,13 @@ checked-alike F s =
     checked-both (Alike s) F s (record { formulas = refl; graph = refl; necessities = refl; waiting = refl; steps = refl })
     (record { formulas = refl; graph = refl; necessities = refl; waiting = refl; steps = refl })
 
-pub laid-fits : {s : State} {p : Progress} {fa ta ea ra la va oa wa ca : List ℕ} → Laid s p fa ta ea ra la va oa wa ca → p .nodes ≤ 512
+pub laid-fits : {s : State} {p : Progress} {fa ta ea ra la va oa wa ca : List ℕ} → Laid s p fa ta ea ra la va oa wa ca → p .nodes ≤ mostIdentifiers
 laid-fits l = omega (arith, l .room, l .count)
 
 -- a state whose contradictions are checked, in arrays: its nodes and what is proved, and the rest as it was
 pub checked-laid : (F : Flags) (s : State) {p : Progress} {fa ta ea ra la va oa wa ca : List ℕ} →
     Recorded (s .formulas) (p .formulas) fa → Drawn (s .graph) (p .worlds) ea → Stack (s .necessities) (p .necessities) oa ra la va → Listed (s .waiting) (p .waiting) wa → Listed (map (D.getNodePriority (s .formulas) (s .nodes)) (s .waiting)) (p .waiting) ca → p .steps ≡ s .steps →
-    Held (checkForContradictions F s .nodes) (p .nodes) ta → p .proved ≡ checkForContradictions F s .proved → p .nodes ≤ 512 → Laid (checkForContradictions F s) p fa ta ea ra la va oa wa ca
+    Held (checkForContradictions F s .nodes) (p .nodes) ta → p .proved ≡ checkForContradictions F s .proved → p .nodes ≤ mostIdentifiers → Laid (checkForContradictions F s) p fa ta ea ra la va oa wa ca
 checked-laid F s {p} {fa} {ta} {ea} {ra} {la} {va} {oa} {wa} {ca} r g n w k e nodes proved small =
     let same = checked-alike F s in
     let h = held-ok nodes small in
@@ -147,7 +148,7 @@ laid-before {s = s} r a l w =
     }
 
 -- no more wait than there are nodes
-pub waiting-fits : (F : Flags) (k : ℕ) (s : State) → Fit F k s → length (s .nodes) ≤ 512 → length (s .waiting) ≤ 512
+pub waiting-fits : (F : Flags) (k : ℕ) (s : State) → Fit F k s → length (s .nodes) ≤ mostIdentifiers → length (s .waiting) ≤ mostIdentifiers
 unfolding Counted
 waiting-fits F k s fit h = omega (arith, fit .bounded .counted, h)
 
@@ -181,11 +182,11 @@ module _ (F : Flags) (s : State) (x : ℕ) (q : List ℕ) where
   abbrev next : State
   next = appended F s taken
 
-  formulas-fit : length (s .formulas) ≤ 1278 → {n : ℕ} {a : List ℕ} → Recorded (s .formulas ++ recs) n a → n ≤ 1280
+  formulas-fit : length (s .formulas) ≤ 1278 → {n : ℕ} {a : List ℕ} → Recorded (s .formulas ++ recs) n a → n ≤ mostFormulas
   formulas-fit h r = recorded-fits r (omega (arith, h, length-append (s .formulas) recs, made-two (s .formulas) f))
 
   -- the rule's result, as the step has it
-  next-after : {e : Expanded} {fb : List ℕ} {a : Sizes} {tb eb rb lb vb ob wb : List ℕ} → e .formulas ≤ 1280 → Expands (s .formulas) (expansion (s .formulas) f) e fb →
+  next-after : {e : Expanded} {fb : List ℕ} {a : Sizes} {tb eb rb lb vb ob wb : List ℕ} → e .formulas ≤ mostFormulas → Expands (s .formulas) (expansion (s .formulas) f) e fb →
       After a tb eb rb lb vb ob wb (applyRule F s x recs (consequenceOf (e .rule))) (placing s q (applyRule F s x recs (consequenceOf (e .rule)))) →
       After a tb eb rb lb vb ob wb (apply F s x) (placing s q (apply F s x))
   unfolding apply
@@ -199,7 +200,7 @@ module _ (F : Flags) (s : State) (x : ℕ) (q : List ℕ) where
   unfolding appended
   next-nodes h = h .nodes
 
-  next-waiting : {a : Sizes} {tb eb rb lb vb ob wb : List ℕ} → After a tb eb rb lb vb ob wb (apply F s x) (placing s q (apply F s x)) → a .nodes ≤ 512 → Listed (next .waiting) (a .waiting) wb
+  next-waiting : {a : Sizes} {tb eb rb lb vb ob wb : List ℕ} → After a tb eb rb lb vb ob wb (apply F s x) (placing s q (apply F s x)) → a .nodes ≤ mostIdentifiers → Listed (next .waiting) (a .waiting) wb
   unfolding appended
   next-waiting h fits = h .rest fits .waiting
 
@@ -219,21 +220,21 @@ module _ (F : Flags) (s : State) (x : ℕ) (q : List ℕ) where
   next-proved = refl
 
   stepped-laid : {a : Sizes} {n m : ℕ} {proved : Bool} {fb tb tc eb rb lb vb ob wb cb : List ℕ} → After a tb eb rb lb vb ob wb (apply F s x) (placing s q (apply F s x)) →
-      Recorded (next .formulas) n fb → m ≡ suc (s .steps) → Held (checkForContradictions F next .nodes) (a .nodes) tc → (a .nodes ≤ 512 → proved ≡ checkForContradictions F next .proved) → a .nodes ≤ 512 → Listed (map (D.getNodePriority (next .formulas) (next .nodes)) (next .waiting)) (a .waiting) cb →
+      Recorded (next .formulas) n fb → m ≡ suc (s .steps) → Held (checkForContradictions F next .nodes) (a .nodes) tc → (a .nodes ≤ mostIdentifiers → proved ≡ checkForContradictions F next .proved) → a .nodes ≤ mostIdentifiers → Listed (map (D.getNodePriority (next .formulas) (next .nodes)) (next .waiting)) (a .waiting) cb →
       Laid (checkForContradictions F next) (record { formulas = n; nodes = a .nodes; worlds = a .worlds; necessities = a .necessities; waiting = a .waiting; steps = m; proved = proved }) fb tc eb rb lb vb ob wb cb
   unfolding appended
   stepped-laid h r e nodes proved small classes = let rest = h .rest small in checked-laid F next r (rest .graph) (rest .necessities) (rest .waiting) classes e nodes (proved small) small
 
   stepped-kept : {a : Sizes} {n m : ℕ} {proved : Bool} {fb tb tc eb rb lb vb ob wb cb : List ℕ} → After a tb eb rb lb vb ob wb (apply F s x) (placing s q (apply F s x)) →
-      Recorded (next .formulas) n fb → m ≡ suc (s .steps) → Held (checkForContradictions F next .nodes) (a .nodes) tc → (a .nodes ≤ 512 → proved ≡ checkForContradictions F next .proved) →
-      (a .nodes ≤ 512 → Listed (map (D.getNodePriority (next .formulas) (next .nodes)) (next .waiting)) (a .waiting) cb) →
+      Recorded (next .formulas) n fb → m ≡ suc (s .steps) → Held (checkForContradictions F next .nodes) (a .nodes) tc → (a .nodes ≤ mostIdentifiers → proved ≡ checkForContradictions F next .proved) →
+      (a .nodes ≤ mostIdentifiers → Listed (map (D.getNodePriority (next .formulas) (next .nodes)) (next .waiting)) (a .waiting) cb) →
       Kept (checkForContradictions F next) (record { formulas = n; nodes = a .nodes; worlds = a .worlds; necessities = a .necessities; waiting = a .waiting; steps = m; proved = proved }) fb tc eb rb lb vb ob wb cb
-  stepped-kept {a} {n} {m} {proved} {fb} {tb} {tc} {eb} {rb} {lb} {vb} {ob} {wb} {cb} h r e nodes told classes = go (leb (a .nodes) 512) refl
+  stepped-kept {a} {n} {m} {proved} {fb} {tb} {tc} {eb} {rb} {lb} {vb} {ob} {wb} {cb} h r e nodes told classes = go (leb (a .nodes) mostIdentifiers) refl
     where
-      go : (b : Bool) → leb (a .nodes) 512 ≡ b →
+      go : (b : Bool) → leb (a .nodes) mostIdentifiers ≡ b →
           Kept (checkForContradictions F next) (record { formulas = n; nodes = a .nodes; worlds = a .worlds; necessities = a .necessities; waiting = a .waiting; steps = m; proved = proved }) fb tc eb rb lb vb ob wb cb
-      go true t = kept (stepped-laid h r e nodes told (leb-true (a .nodes) 512 t) (classes (leb-true (a .nodes) 512 t)))
-      go false t = full (leb-false (a .nodes) 512 t) (held-over nodes (leb-false (a .nodes) 512 t))
+      go true t = kept (stepped-laid h r e nodes told (leb-true (a .nodes) mostIdentifiers t) (classes (leb-true (a .nodes) mostIdentifiers t)))
+      go false t = full (leb-false (a .nodes) mostIdentifiers t) (held-over nodes (leb-false (a .nodes) mostIdentifiers t))
 
   step-is : D.pop (s .formulas) (s .nodes) (s .waiting) ≡ some taken → checkForContradictions F next ≡ step F s
   unfolding step stepBy
@@ -243,13 +244,13 @@ module _ (F : Flags) (s : State) (x : ℕ) (q : List ℕ) where
       {p : Progress} {fa ta ea ra la va oa wa ca : List ℕ} → Laid s p fa ta ea ra la va oa wa ca →
       {e : Expanded} {fb : List ℕ} → Expands (s .formulas) (expansion (s .formulas) f) e fb →
       {a : Sizes} {tb eb rb lb vb ob wb : List ℕ} → After a tb eb rb lb vb ob wb (applyRule F s x recs (consequenceOf (e .rule))) (placing s q (applyRule F s x recs (consequenceOf (e .rule)))) →
-      {m : ℕ} → (p .steps < 512 → m ≡ suc (p .steps)) →
+      {m : ℕ} → (p .steps < mostIdentifiers → m ≡ suc (p .steps)) →
       {n : ℕ} {cz cb : List ℕ} → length q ≡ n → Listed (map (D.getNodePriority (s .formulas) (s .nodes)) q) n cz →
-      ((rs : List Rec) (ns : List Node) (q more : List ℕ) → Recorded rs (e .formulas) fb → e .formulas ≤ 1280 → length ns ≤ 512 → tb ≡ lay ns → Listed (q ++ more) (a .waiting) wb → a .waiting ≤ 512 → length q ≡ n →
+      ((rs : List Rec) (ns : List Node) (q more : List ℕ) → Recorded rs (e .formulas) fb → e .formulas ≤ mostFormulas → length ns ≤ mostIdentifiers → tb ≡ lay ns → Listed (q ++ more) (a .waiting) wb → a .waiting ≤ mostIdentifiers → length q ≡ n →
       Listed (map (D.getNodePriority rs ns) q) n cz → Listed (map (D.getNodePriority rs ns) (q ++ more)) (a .waiting) cb) →
       {proved : Bool} {tc : List ℕ} →
-      ((z : State) → p .proved ≡ z .proved → Recorded (z .formulas) (e .formulas) fb → e .formulas ≤ 1280 → Held (z .nodes) (a .nodes) tb → (F .skip ≡ false → a .nodes ≤ 512 → Since (z .formulas) (z .nodes) (p .nodes)) →
-      Held (checkForContradictions F z .nodes) (a .nodes) tc × (a .nodes ≤ 512 → proved ≡ checkForContradictions F z .proved)) →
+      ((z : State) → p .proved ≡ z .proved → Recorded (z .formulas) (e .formulas) fb → e .formulas ≤ mostFormulas → Held (z .nodes) (a .nodes) tb → (F .skip ≡ false → a .nodes ≤ mostIdentifiers → Since (z .formulas) (z .nodes) (p .nodes)) →
+      Held (checkForContradictions F z .nodes) (a .nodes) tc × (a .nodes ≤ mostIdentifiers → proved ≡ checkForContradictions F z .proved)) →
       Kept (step F s) (record { formulas = e .formulas; nodes = a .nodes; worlds = a .worlds; necessities = a .necessities; waiting = a .waiting; steps = m; proved = proved }) fb tc eb rb lb vb ob wb cb
   unfolding Counted
   stepped k fit watch st o {p} l {e} {fb} ex {a} {tb} {eb} {rb} {lb} {vb} {ob} {wb} af {m} count {n} {cz} {cb} size known classify {proved} {tc} check =
@@ -260,7 +261,7 @@ module _ (F : Flags) (s : State) (x : ℕ) (q : List ℕ) where
       let nodes = next-nodes h in
       let c = check next (l .proved ∙ sym next-proved) rec small nodes (λ e fits. subst (Since (next .formulas) (next .nodes)) (l .count)
       (since-step F k s taken fit st (omega (arith, held-ok nodes fits .0, fits)) (watch e (omega (arith, r .nodes))))) in
-      let low : p .steps < 512 = omega (arith, l .steps, fit .bounded .counted, r .nodes, waits) in
+      let low : p .steps < mostIdentifiers = omega (arith, l .steps, fit .bounded .counted, r .nodes, waits) in
       subst (λ (z : State). Kept z (record { formulas = e .formulas; nodes = a .nodes; worlds = a .worlds; necessities = a .necessities; waiting = a .waiting; steps = m; proved = proved }) fb tc eb rb lb vb ob wb cb) (step-is o)
       (stepped-kept h rec (count low ∙ ap suc (l .steps)) (c .0) (c .1) (λ fits.
       let w = queued F s taken in

@@ -8,6 +8,7 @@ use native.Mathlib.Omega.{arith}
 use lib.Dec.{eqb, leb}
 use borrow.Author.Tests.{lt-ltb, le-ltb, ne-eqb}
 use lib.ListN.{length}
+use Rattle.definition.specs.Limits.{mostIdentifiers, worldLimit}
 use Rattle.definition.specs.Lists.{empty}
 use Rattle.definition.specs.Run
 use Rattle.definition.specs.Run.{State, ended, stops}
@@ -24,7 +25,7 @@ empty-count : (l : List ℕ) (n : ℕ) → length l ≡ n → empty l ≡ eqb n 
 empty-count [] n e = rw (← e) refl
 empty-count (x ∷ l) n e = sym (ne-eqb n 0 (λ q. omega (arith, e, q)))
 
-empty-long : (l : List ℕ) (n : ℕ) → 512 < length l → 512 < n → empty l ≡ eqb n 0
+empty-long : (l : List ℕ) (n : ℕ) → mostIdentifiers < length l → mostIdentifiers < n → empty l ≡ eqb n 0
 empty-long [] n h k = absurd (omega arith)
 empty-long (x ∷ l) n h k = sym (ne-eqb n 0 (λ q. omega (arith, k, q)))
 
@@ -33,24 +34,24 @@ listed-empty l n a (listed b e q) = empty-count l n e
 listed-empty l n a (tooLong b e) = empty-long l n e b
 
 module _ {s : State} {p : Progress} {fa ta ea ra la va oa wa ca : List ℕ} where
-  pub stops-full : Kept s p fa ta ea ra la va oa wa ca → 512 < p .nodes → true ≡ stops s
+  pub stops-full : Kept s p fa ta ea ra la va oa wa ca → mostIdentifiers < p .nodes → true ≡ stops s
   unfolding stops Run.full
   stops-full (kept k) h = absurd (omega (arith, k .room, k .count))
-  stops-full (full a b) h = sym (or-true (ended s) (lt-ltb 512 (length (s .nodes)) b))
+  stops-full (full a b) h = sym (or-true (ended s) (lt-ltb mostIdentifiers (length (s .nodes)) b))
 
-  pub stops-by : Kept s p fa ta ea ra la va oa wa ca → p .nodes ≤ 512 → (p .proved || (eqb (p .waiting) 0 || leb 25 (p .worlds))) ≡ stops s
+  pub stops-by : Kept s p fa ta ea ra la va oa wa ca → p .nodes ≤ mostIdentifiers → (p .proved || (eqb (p .waiting) 0 || leb worldLimit (p .worlds))) ≡ stops s
   unfolding stops Run.full ended
   stops-by (kept k) h =
-      rw (le-ltb 512 (length (s .nodes)) (k .room), or-false (ended s), k .proved, listed-empty (s .waiting) (p .waiting) wa (k .waiting), k .graph .count) refl
+      rw (le-ltb mostIdentifiers (length (s .nodes)) (k .room), or-false (ended s), k .proved, listed-empty (s .waiting) (p .waiting) wa (k .waiting), k .graph .count) refl
   stops-by (full a b) h = absurd (omega arith)
 
-  pub stops-proved : Kept s p fa ta ea ra la va oa wa ca → p .nodes ≤ 512 → p .proved ≡ true → true ≡ stops s
-  stops-proved k h e = sym (ap (λ (b : Bool). b || (eqb (p .waiting) 0 || leb 25 (p .worlds))) e) ∙ stops-by k h
+  pub stops-proved : Kept s p fa ta ea ra la va oa wa ca → p .nodes ≤ mostIdentifiers → p .proved ≡ true → true ≡ stops s
+  stops-proved k h e = sym (ap (λ (b : Bool). b || (eqb (p .waiting) 0 || leb worldLimit (p .worlds))) e) ∙ stops-by k h
 
-  pub stops-idle : Kept s p fa ta ea ra la va oa wa ca → p .nodes ≤ 512 → p .proved ≡ false → p .waiting ≡ 0 → true ≡ stops s
+  pub stops-idle : Kept s p fa ta ea ra la va oa wa ca → p .nodes ≤ mostIdentifiers → p .proved ≡ false → p .waiting ≡ 0 → true ≡ stops s
   stops-idle k h e w =
-      sym (ap (λ (b : Bool). b || (eqb (p .waiting) 0 || leb 25 (p .worlds))) e ∙ ap (λ (n : ℕ). eqb n 0 || leb 25 (p .worlds)) w) ∙ stops-by k h
+      sym (ap (λ (b : Bool). b || (eqb (p .waiting) 0 || leb worldLimit (p .worlds))) e ∙ ap (λ (n : ℕ). eqb n 0 || leb worldLimit (p .worlds)) w) ∙ stops-by k h
 
-  pub stops-late : Kept s p fa ta ea ra la va oa wa ca → p .nodes ≤ 512 → p .proved ≡ false → p .waiting ≢ 0 → leb 25 (p .worlds) ≡ stops s
+  pub stops-late : Kept s p fa ta ea ra la va oa wa ca → p .nodes ≤ mostIdentifiers → p .proved ≡ false → p .waiting ≢ 0 → leb worldLimit (p .worlds) ≡ stops s
   stops-late k h e w =
-      sym (ap (λ (b : Bool). b || (eqb (p .waiting) 0 || leb 25 (p .worlds))) e ∙ ap (λ (b : Bool). b || leb 25 (p .worlds)) (ne-eqb (p .waiting) 0 w)) ∙ stops-by k h
+      sym (ap (λ (b : Bool). b || (eqb (p .waiting) 0 || leb worldLimit (p .worlds))) e ∙ ap (λ (b : Bool). b || leb worldLimit (p .worlds)) (ne-eqb (p .waiting) 0 w)) ∙ stops-by k h

@@ -4,6 +4,7 @@ use mathlib.Core.Path.{_≡_}
 use mathlib.Core.Bool.{Bool}
 use mathlib.Core.List.{List, map}
 use lib.ListN.{length}
+use Rattle.definition.specs.Limits.{mostIdentifiers}
 use Rattle.definition.specs.Flags.{Flags}
 use Rattle.definition.specs.Queue.{getNodePriority}
 use Rattle.definition.specs.Run.{State}
@@ -25,7 +26,7 @@ pub record Flagged (F : Flags) (l : NormalModalLogic) (b : Bool) : Type 0 where
 module _ (s : State) (p : Progress) (fa ta ea ra la va oa wa ca : List ℕ) where
   pub record Laid : Type 0 where
     pub formulas : Recorded (s .formulas) (p .formulas) fa
-    pub room : length (s .nodes) ≤ 512
+    pub room : length (s .nodes) ≤ mostIdentifiers
     pub count : length (s .nodes) ≡ p .nodes
     pub nodes : ta ≡ lay (s .nodes)
     pub graph : Drawn (s .graph) (p .worlds) ea
@@ -38,4 +39,4 @@ module _ (s : State) (p : Progress) (fa ta ea ra la va oa wa ca : List ℕ) wher
   -- a count above 512 says that the state is full, and nothing of the arrays
   pub data Kept : Type 0 where
     kept : Laid → Kept
-    full : 512 < p .nodes → 512 < length (s .nodes) → Kept
+    full : mostIdentifiers < p .nodes → mostIdentifiers < length (s .nodes) → Kept

@@ -2,6 +2,18 @@
 // Of a call whose arrays lay out nothing of the kind that its contract names: it ends and stays in bounds; its outcome is free.
 use contradictions::check_for_contradictions;
 use graph::NormalModalLogic;
+use limits::Classes;
+use limits::Edges;
+use limits::FULL;
+use limits::Formulas;
+use limits::Leaves;
+use limits::MOST_IDENTIFIERS;
+use limits::Necessities;
+use limits::Nodes;
+use limits::Order;
+use limits::WORLD_LIMIT;
+use limits::Waiting;
+use limits::Worlds;
 use logic::Sizes;
 use logic::apply_necessity;
 use logic::apply_possibility;
@@ -19,6 +31,7 @@ ghost use mathlib.Core.Path.{_≡_};
 ghost use mathlib.Core.Bool.{false};
 ghost use mathlib.Core.List.{List};
 ghost use Prim.Native.Nat.{ℕ, suc, _<_, _≤_};
+ghost use Rattle.definition.specs.Limits.{mostIdentifiers, mostFormulas};
 ghost use Rattle.definition.specs.Records.{Rec};
 ghost use Rattle.definition.specs.Flags.{Flags};
 ghost use Rattle.definition.specs.Tree.{leaves};
@@ -49,7 +62,7 @@ pub struct Progress {
 fn stops(p: Progress) -> bool
     ensures { λ r. ⌜ ((s : State) (formulas tree edges rows leaves visited order wait classes : List ℕ) → Kept s p formulas tree edges rows leaves visited order wait classes → r ≡ stops s) ⌝ }
 {
-    if 512 < p.nodes {
+    if MOST_IDENTIFIERS < p.nodes {
         return true;
     }
     if p.proved {
@@ -58,7 +71,7 @@ fn stops(p: Progress) -> bool
     if p.waiting == 0 {
         return true;
     }
-    25 <= p.worlds
+    WORLD_LIMIT <= p.worlds
 }
 
 // The rule's nodes at its own world, placed.
@@ -66,8 +79,8 @@ fn append_here(
     p: Sizes,
     x: ProofTreeNodeID,
     rule: Consequence,
-    tree: &mut [u16; 4608],
-    wait: &mut [u16; 512],
+    tree: &mut Nodes,
+    wait: &mut Waiting,
 ) -> Sizes
     ensures { λ r. ⌜ ((s : State) (more : List Rec) (q ea ra la va oa : List ℕ) → Before p (now (tree .entry)) ea ra la va oa (now (wait .entry)) s q
         → After r (now (tree .exit)) ea ra la va oa (now (wait .exit)) (applyHere s (x .0) more (hereOf (consequenceOf rule))) (placing s q (applyHere s (x .0) more (hereOf (consequenceOf rule))))) ⌝ }
@@ -96,13 +109,13 @@ fn apply(
     p: Sizes,
     x: ProofTreeNodeID,
     rule: Consequence,
-    tree: &mut [u16; 4608],
-    edges: &mut [u8; 625],
-    rows: &mut [u16; 1536],
-    leaves: &mut [u32; 8192],
-    visited: &mut [u32; 512],
-    order: &mut [u16; 512],
-    wait: &mut [u16; 512],
+    tree: &mut Nodes,
+    edges: &mut Edges,
+    rows: &mut Necessities,
+    leaves: &mut Leaves,
+    visited: &mut Worlds,
+    order: &mut Order,
+    wait: &mut Waiting,
 ) -> Sizes
     ensures { λ r. ⌜ ((F : Flags) (s : State) (more : List Rec) (q : List ℕ) → logic ≡ logicOf F
         → Before p (now (tree .entry)) (now (edges .entry)) (now (rows .entry)) (now (leaves .entry)) (now (visited .entry)) (now (order .entry)) (now (wait .entry)) s q
@@ -145,10 +158,10 @@ fn apply(
 
 // The count after one step more.
 fn next_step(steps: usize) -> usize
-    ensures { λ r. ⌜ (steps < 512 → r ≡ suc steps) ⌝ }
+    ensures { λ r. ⌜ (steps < mostIdentifiers → r ≡ suc steps) ⌝ }
 {
-    if 512 <= steps {
-        return 513;
+    if MOST_IDENTIFIERS <= steps {
+        return FULL;
     }
     steps + 1
 }
@@ -157,14 +170,14 @@ fn next_step(steps: usize) -> usize
 fn check(
     skip: bool,
     proved: bool,
-    formulas: &[u16; 5120],
+    formulas: &Formulas,
     count: usize,
-    tree: &mut [u16; 4608],
+    tree: &mut Nodes,
     len: usize,
     old: usize,
 ) -> bool
-    ensures { λ r. ⌜ ((F : Flags) (s : State) → skip ≡ F .skip → proved ≡ s .proved → Recorded (s .formulas) count (now (formulas .entry)) → count ≤ 1280 → Held (s .nodes) len (now (tree .entry)) → (F .skip ≡ false → len ≤ 512 → Since (s .formulas) (s .nodes) old)
-        → Held (checkForContradictions F s .nodes) len (now (tree .exit)) × (len ≤ 512 → r ≡ checkForContradictions F s .proved)) ⌝ }
+    ensures { λ r. ⌜ ((F : Flags) (s : State) → skip ≡ F .skip → proved ≡ s .proved → Recorded (s .formulas) count (now (formulas .entry)) → count ≤ mostFormulas → Held (s .nodes) len (now (tree .entry)) → (F .skip ≡ false → len ≤ mostIdentifiers → Since (s .formulas) (s .nodes) old)
+        → Held (checkForContradictions F s .nodes) len (now (tree .exit)) × (len ≤ mostIdentifiers → r ≡ checkForContradictions F s .proved)) ⌝ }
 {
     if skip {
         return proved;
@@ -177,8 +190,8 @@ fn check(
 }
 
 // The state before any step: contradictions are checked once, unless they are skipped.
-pub fn begin(skip: bool, p: Progress, formulas: &[u16; 5120], tree: &mut [u16; 4608]) -> Progress
-    ensures { λ r. ⌜ ((F : Flags) (s : State) (ea ra la va oa wa ca : List ℕ) → skip ≡ F .skip → p .formulas ≤ 1280 → Since (s .formulas) (s .nodes) 0
+pub fn begin(skip: bool, p: Progress, formulas: &Formulas, tree: &mut Nodes) -> Progress
+    ensures { λ r. ⌜ ((F : Flags) (s : State) (ea ra la va oa wa ca : List ℕ) → skip ≡ F .skip → p .formulas ≤ mostFormulas → Since (s .formulas) (s .nodes) 0
         → Laid s p (now (formulas .entry)) (now (tree .entry)) ea ra la va oa wa ca
         → Kept (checkForContradictions F s) r (now (formulas .entry)) (now (tree .exit)) ea ra la va oa wa ca) ⌝ }
 {
@@ -199,15 +212,15 @@ fn step(
     logic: NormalModalLogic,
     skip: bool,
     p: Progress,
-    formulas: &mut [u16; 5120],
-    tree: &mut [u16; 4608],
-    edges: &mut [u8; 625],
-    rows: &mut [u16; 1536],
-    leaves: &mut [u32; 8192],
-    visited: &mut [u32; 512],
-    order: &mut [u16; 512],
-    wait: &mut [u16; 512],
-    classes: &mut [u16; 512],
+    formulas: &mut Formulas,
+    tree: &mut Nodes,
+    edges: &mut Edges,
+    rows: &mut Necessities,
+    leaves: &mut Leaves,
+    visited: &mut Worlds,
+    order: &mut Order,
+    wait: &mut Waiting,
+    classes: &mut Classes,
 ) -> Progress
     ensures { λ r. ⌜ ((F : Flags) (k : ℕ) (s : State) → Flagged F logic skip → Fit F k s → Watch F s → AllRooted s
         → Kept s p (now (formulas .entry)) (now (tree .entry)) (now (edges .entry)) (now (rows .entry)) (now (leaves .entry)) (now (visited .entry)) (now (order .entry)) (now (wait .entry)) (now (classes .entry))
@@ -267,23 +280,23 @@ pub fn prove(
     logic: NormalModalLogic,
     skip: bool,
     begun: Progress,
-    formulas: &mut [u16; 5120],
-    tree: &mut [u16; 4608],
-    edges: &mut [u8; 625],
-    rows: &mut [u16; 1536],
-    leaves: &mut [u32; 8192],
-    visited: &mut [u32; 512],
-    order: &mut [u16; 512],
-    wait: &mut [u16; 512],
-    classes: &mut [u16; 512],
+    formulas: &mut Formulas,
+    tree: &mut Nodes,
+    edges: &mut Edges,
+    rows: &mut Necessities,
+    leaves: &mut Leaves,
+    visited: &mut Worlds,
+    order: &mut Order,
+    wait: &mut Waiting,
+    classes: &mut Classes,
 ) -> Progress
     ensures { λ r. ⌜ ((F : Flags) (k : ℕ) (s : State) → Flagged F logic skip → Fit F k s → Watch F s → AllRooted s
         → Kept s begun (now (formulas .entry)) (now (tree .entry)) (now (edges .entry)) (now (rows .entry)) (now (leaves .entry)) (now (visited .entry)) (now (order .entry)) (now (wait .entry)) (now (classes .entry))
-        → Kept (run 513 F s) r (now (formulas .exit)) (now (tree .exit)) (now (edges .exit)) (now (rows .exit)) (now (leaves .exit)) (now (visited .exit)) (now (order .exit)) (now (wait .exit)) (now (classes .exit))) ⌝ }
+        → Kept (run (suc mostIdentifiers) F s) r (now (formulas .exit)) (now (tree .exit)) (now (edges .exit)) (now (rows .exit)) (now (leaves .exit)) (now (visited .exit)) (now (order .exit)) (now (wait .exit)) (now (classes .exit))) ⌝ }
 {
     let mut p = begun;
     let mut n: usize = 0;
-    while n < 513 {
+    while n < FULL {
         if stops(p) {
             return p;
         }

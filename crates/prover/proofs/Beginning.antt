@@ -5,6 +5,7 @@ use mathlib.Core.List.{List, [], map, reverse}
 use Prim.Native.Nat.{ℕ, _≤_, _/_}
 use native.Mathlib.Omega.{arith}
 use lib.ListN.{length, length-map, length-reverse}
+use Rattle.definition.specs.Limits.{recordLength, mostRecords, mostMarked, mostIdentifiers, mostFormulas}
 use Rattle.arrays.specs.Listed.{Listed}
 use Rattle.arrays.proofs.Listed.{listed-fits}
 use Rattle.definition.specs.Lists.{empty, below}
@@ -29,7 +30,7 @@ use Rattle.necessities.specs.Stack.{Stack}
 use Rattle.proof.specs.declared.Progress.{Progress}
 use Rattle.proof.specs.Kept.{Laid, Kept}
 
-pub few-records : (bytes : List ℕ) → length bytes / 6 ≤ 256 → length (decode bytes) ≤ 256
+pub few-records : (bytes : List ℕ) → length bytes / recordLength ≤ mostRecords → length (decode bytes) ≤ mostRecords
 few-records bytes h = omega (arith, length-decode bytes, h)
 
 module _ (rs : List Rec) where
@@ -41,8 +42,8 @@ module _ (rs : List Rec) where
   unfolding begun
   begun-nodes = refl
 
-  module _ (some : empty (marks rs) ≡ false) (few : length (marks rs) ≤ 64) where
-    begun-few : length (rooted (branchNodes rs)) ≤ 64
+  module _ (some : empty (marks rs) ≡ false) (few : length (marks rs) ≤ mostMarked) where
+    begun-few : length (rooted (branchNodes rs)) ≤ mostMarked
     begun-few = omega (arith, length-rooted (branchNodes rs), length-branch, few)
 
     begun-since : Since (begun rs .formulas) (begun rs .nodes) 0
@@ -58,11 +59,11 @@ module _ (rs : List Rec) where
         record { formulas = r; room = omega (arith, begun-few); count = k .0; nodes = k .1; graph = g; necessities = n; waiting = w; classes = c; proved = refl; steps = refl }
 
     -- records read, nodes linked, root queued, contradictions checked: the start
-    pub started : (F : Flags) {count len waiting : ℕ} {p : Progress} {fa ta tb ea ra la va oa wa ca : List ℕ} → length rs ≤ 256 → Drawn emptyGraph 0 ea → Stack [] 0 oa ra la va → Recorded rs count fa →
-        (count ≤ 1280 → Held (rooted (branchNodes rs)) len ta) →
-        (length (branchNodes rs) ≡ len → len ≤ 512 → ta ≡ lay (rooted (branchNodes rs)) → Listed (reverse (below (length (branchNodes rs)))) waiting wa) →
-        ((ns : List Node) (q : List ℕ) → count ≤ 1280 → length ns ≤ 512 → ta ≡ lay ns → Listed q waiting wa → waiting ≤ 512 → Listed (map (getNodePriority rs ns) q) waiting ca) →
-        (count ≤ 1280 → Since (begun rs .formulas) (begun rs .nodes) 0 →
+    pub started : (F : Flags) {count len waiting : ℕ} {p : Progress} {fa ta tb ea ra la va oa wa ca : List ℕ} → length rs ≤ mostRecords → Drawn emptyGraph 0 ea → Stack [] 0 oa ra la va → Recorded rs count fa →
+        (count ≤ mostFormulas → Held (rooted (branchNodes rs)) len ta) →
+        (length (branchNodes rs) ≡ len → len ≤ mostIdentifiers → ta ≡ lay (rooted (branchNodes rs)) → Listed (reverse (below (length (branchNodes rs)))) waiting wa) →
+        ((ns : List Node) (q : List ℕ) → count ≤ mostFormulas → length ns ≤ mostIdentifiers → ta ≡ lay ns → Listed q waiting wa → waiting ≤ mostIdentifiers → Listed (map (getNodePriority rs ns) q) waiting ca) →
+        (count ≤ mostFormulas → Since (begun rs .formulas) (begun rs .nodes) 0 →
         Laid (begun rs) (record { formulas = count; nodes = len; worlds = 0; necessities = 0; waiting = waiting; steps = 0; proved = false }) fa ta ea ra la va oa wa ca →
         Kept (checkForContradictions F (begun rs)) p fa tb ea ra la va oa wa ca) →
         Kept (start F rs) p fa tb ea ra la va oa wa ca
@@ -73,5 +74,5 @@ module _ (rs : List Rec) where
         let low = held-fits h (omega (arith, begun-few)) in
         let k = held-ok h low in
         let w = queue (sym (length-rooted (branchNodes rs)) ∙ k .0) low (k .1) in
-        let short : length (reverse (below (length (branchNodes rs)))) ≤ 512 = omega (arith, length-reverse (below (length (branchNodes rs))), length-from (length (branchNodes rs)) 0, length-branch, few) in
+        let short : length (reverse (below (length (branchNodes rs)))) ≤ mostIdentifiers = omega (arith, length-reverse (below (length (branchNodes rs))), length-from (length (branchNodes rs)) 0, length-branch, few) in
         check fits begun-since (begun-laid r h w (classify (rooted (branchNodes rs)) (reverse (below (length (branchNodes rs)))) fits (omega (arith, begun-few)) (k .1) w (listed-fits w short)) g n)

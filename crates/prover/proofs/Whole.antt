@@ -4,10 +4,10 @@ use mathlib.Core.Bool.{Bool, true, false, cond}
 use mathlib.Core.List.{List}
 use mathlib.Core.Option.{Option, none, some}
 use mathlib.Core.Logic.{_⊎_, inl, inr}
-use Prim.Native.Nat.{ℕ, _≤_, _<_, _/_}
+use Prim.Native.Nat.{ℕ, suc, _≤_, _<_, _/_}
 use native.Mathlib.Omega.{arith}
 use lib.ListN.{length}
-use Rattle.definition.specs.Limits.{worldLimit}
+use Rattle.definition.specs.Limits.{recordLength, mostRecords, mostMarked, mostIdentifiers, worldLimit}
 use Rattle.definition.specs.Lists.{Each, empty}
 use Rattle.definition.specs.Records.{Rec, Unknown, nobody, made, decode, recAt, marks}
 use Rattle.definition.specs.Flags.{Flags, flagsOf}
@@ -116,8 +116,8 @@ module _ (branch : List ℕ) (flags : ℕ) (lent : Trays) where
     -- begun, run to its end, laid out
     pub runs : {r : Answer} {left : Trays} {logic : NormalModalLogic} {skip : Bool} {p q : Progress} {fa ta ea ra la va oa wa ca fb tb eb rb lb vb ob wb cb : List ℕ} → refused branch flags (lengthsOf lent) ≡ none →
         logic ≡ logicOf F → skip ≡ F .skip →
-        (length branch / 6 ≤ 256 → empty (marks rs) ≡ false → length (marks rs) ≤ 64 → Kept (start F rs) p fa ta ea ra la va oa wa ca) →
-        (Flagged F logic skip → Fit F (length rs) (start F rs) → Watch F (start F rs) → AllRooted (start F rs) → Kept (start F rs) p fa ta ea ra la va oa wa ca → Kept (run 513 F (start F rs)) q fb tb eb rb lb vb ob wb cb) →
+        (length branch / recordLength ≤ mostRecords → empty (marks rs) ≡ false → length (marks rs) ≤ mostMarked → Kept (start F rs) p fa ta ea ra la va oa wa ca) →
+        (Flagged F logic skip → Fit F (length rs) (start F rs) → Watch F (start F rs) → AllRooted (start F rs) → Kept (start F rs) p fa ta ea ra la va oa wa ca → Kept (run (suc mostIdentifiers) F (start F rs)) q fb tb eb rb lb vb ob wb cb) →
         (Kept (final F rs) q fb tb eb rb lb vb ob wb cb → Ends (final F rs) → Sized lent → (r ≡ answerOf (outcomeOfRun (final F rs))) × (left ≡ traysAfter (outcomeOfRun (final F rs)) lent)) →
         Contract branch flags lent r left
     unfolding final

@@ -4,6 +4,7 @@ use mathlib.Core.Bool.{Bool, false}
 use mathlib.Core.List.{List}
 use Prim.Native.Nat.{_≤_, _<_}
 use lib.ListN.{length}
+use Rattle.definition.specs.Limits.{mostIdentifiers, mostFormulas}
 use Rattle.definition.specs.Lists.{Each}
 use Rattle.definition.specs.Records.{Rec}
 use Rattle.definition.specs.Checks.{LongEnough}
@@ -15,8 +16,8 @@ use Rattle.definition.specs.Call.{lengthsOf}
 -- a run that is not full ends with numbers that fit their bytes, and a square of edges
 pub record Fits (s : State) : Type 0 where
   pub worlds : Each (λ (x : Node). x .world < 256) (s .nodes)
-  pub steps : s .steps ≤ 512
-  pub formulas : length (s .formulas) ≤ 1280
+  pub steps : s .steps ≤ mostIdentifiers
+  pub formulas : length (s .formulas) ≤ mostFormulas
   pub marks : Each (λ (r : Rec). r .mark < 256) (s .formulas)
   pub rows : length (s .graph .rows) ≡ s .graph .worlds
   pub columns : Each (λ (row : List Bool). length row ≡ s .graph .worlds) (s .graph .rows)

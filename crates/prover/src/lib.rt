@@ -5,6 +5,20 @@ use branch::read_records;
 use checks::Checked;
 use checks::check;
 use graph::NormalModalLogic;
+use limits::Classes;
+use limits::EDGE_CELLS;
+use limits::Edges;
+use limits::FORMULA_CELLS;
+use limits::FORMULA_TRAY_LENGTH;
+use limits::Formulas;
+use limits::LEAF_WORDS;
+use limits::MOST_IDENTIFIERS;
+use limits::NECESSITY_CELLS;
+use limits::NODE_CELLS;
+use limits::NODE_TRAY_LENGTH;
+use limits::Nodes;
+use limits::WORLD_LIMIT;
+use limits::Waiting;
 use proof::Progress;
 use queue::classify;
 use trays::clear;
@@ -19,6 +33,7 @@ ghost use mathlib.Core.Option.{none};
 ghost use Prim.Native.Nat.{ℕ, _≤_, _/_, _%_};
 ghost use lib.Dec.{eqb};
 ghost use lib.ListN.{length};
+ghost use Rattle.definition.specs.Limits.{recordLength, mostRecords, mostMarked};
 ghost use Rattle.arrays.specs.Listed.{Listed};
 ghost use Rattle.definition.specs.Lists.{empty};
 ghost use Rattle.definition.specs.Records.{decode, marks};
@@ -75,12 +90,12 @@ fn logic_of(flags: u8) -> NormalModalLogic
 fn begin(
     branch: &[u8],
     skip: bool,
-    formulas: &mut [u16; 5120],
-    tree: &mut [u16; 4608],
-    wait: &mut [u16; 512],
-    classes: &mut [u16; 512],
+    formulas: &mut Formulas,
+    tree: &mut Nodes,
+    wait: &mut Waiting,
+    classes: &mut Classes,
 ) -> Progress
-    ensures { λ r. ⌜ ((F : Flags) (ea ra la va oa : List ℕ) → skip ≡ F .skip → length (now (branch .entry)) / 6 ≤ 256 → empty (marks (decode (now (branch .entry)))) ≡ false → length (marks (decode (now (branch .entry)))) ≤ 64
+    ensures { λ r. ⌜ ((F : Flags) (ea ra la va oa : List ℕ) → skip ≡ F .skip → length (now (branch .entry)) / recordLength ≤ mostRecords → empty (marks (decode (now (branch .entry)))) ≡ false → length (marks (decode (now (branch .entry)))) ≤ mostMarked
         → Recorded [] 0 (now (formulas .entry)) → Held [] 0 (now (tree .entry)) → Listed [] 0 (now (wait .entry)) → Listed [] 0 (now (classes .entry)) → Drawn emptyGraph 0 ea → Stack [] 0 oa ra la va
         → Kept (start F (decode (now (branch .entry)))) r (now (formulas .exit)) (now (tree .exit)) ea ra la va oa (now (wait .exit)) (now (classes .exit))) ⌝ }
 {
@@ -113,9 +128,9 @@ fn narrow(n: usize) -> u16
 // The answer of a run that has stopped, and its trays.
 fn finish(
     p: Progress,
-    table: &[u16; 5120],
-    tree: &[u16; 4608],
-    graph: &[u8; 625],
+    table: &Formulas,
+    tree: &Nodes,
+    graph: &Edges,
     nodes: &mut [u8],
     formulas: &mut [u8],
     edges: &mut [u32],
@@ -125,9 +140,9 @@ fn finish(
         → (said r ≡ answerOf (outcomeOfRun s))
         × (trays (now (nodes .exit)) (now (formulas .exit)) (now (edges .exit)) ≡ traysAfter (outcomeOfRun s) (trays (now (nodes .entry)) (now (formulas .entry)) (now (edges .entry))))) ⌝ }
 {
-    if 512 < p.nodes {
-        clear(nodes, 6144);
-        clear(formulas, 7680);
+    if MOST_IDENTIFIERS < p.nodes {
+        clear(nodes, NODE_TRAY_LENGTH);
+        clear(formulas, FORMULA_TRAY_LENGTH);
         clear_edges(edges);
         return Answer::Refusal {
             number: 12,
@@ -139,7 +154,7 @@ fn finish(
     write_edges(edges, graph, p.worlds);
     Answer::Verdict {
         proved: p.proved,
-        late: 25 <= p.worlds,
+        late: WORLD_LIMIT <= p.worlds,
         identifiers: narrow(p.nodes),
         formulas: narrow(p.formulas),
         worlds: narrow(p.worlds),
@@ -152,15 +167,15 @@ fn run(branch: &[u8], flags: u8, nodes: &mut [u8], formulas: &mut [u8], edges: &
     ensures { λ r. ⌜ (refused (now (branch .entry)) flags (lengthsOf (trays (now (nodes .entry)) (now (formulas .entry)) (now (edges .entry)))) ≡ none
         → Contract (now (branch .entry)) flags (trays (now (nodes .entry)) (now (formulas .entry)) (now (edges .entry))) (said r) (trays (now (nodes .exit)) (now (formulas .exit)) (now (edges .exit)))) ⌝ }
 {
-    let mut table = [0u16; 5120];
-    let mut tree = [65535u16; 4608];
-    let mut graph = [0u8; 625];
-    let mut rows = [0u16; 1536];
-    let mut leaves = [0u32; 8192];
-    let mut visited = [0u32; 512];
-    let mut order = [0u16; 512];
-    let mut wait = [0u16; 512];
-    let mut classes = [0u16; 512];
+    let mut table = [0u16; FORMULA_CELLS];
+    let mut tree = [65535u16; NODE_CELLS];
+    let mut graph = [0u8; EDGE_CELLS];
+    let mut rows = [0u16; NECESSITY_CELLS];
+    let mut leaves = [0u32; LEAF_WORDS];
+    let mut visited = [0u32; MOST_IDENTIFIERS];
+    let mut order = [0u16; MOST_IDENTIFIERS];
+    let mut wait = [0u16; MOST_IDENTIFIERS];
+    let mut classes = [0u16; MOST_IDENTIFIERS];
     let skip = flag(flags, 8);
     let begun = begin(branch, skip, &mut table, &mut tree, &mut wait, &mut classes);
     let p = proof::prove(

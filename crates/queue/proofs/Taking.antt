@@ -10,6 +10,7 @@ use borrow.Author.Tests.{lt-ltb, le-ltb, eq-eqb, ne-eqb}
 use lib.Dec.{eqb}
 use lib.ListN.{length, length-map, getD, take, drop, drop-of-length-le}
 use lib.Seq.{take-suc, take-all, take-at, length-take-le, drop-cons}
+use Rattle.definition.specs.Limits.{mostIdentifiers}
 use Rattle.arrays.specs.Data.{without}
 use Rattle.arrays.specs.Listed.{Listed}
 use Rattle.arrays.proofs.Laws.{length-without}
@@ -100,7 +101,7 @@ get-map f [] i h = absurd (omega arith)
 get-map f (x ∷ q) zero h = refl
 get-map f (x ∷ q) (suc i) h = get-map f q i (omega arith)
 
-module _ (rs : List Rec) (ns : List Node) (q : List ℕ) {n : ℕ} {a : List ℕ} (l : Listed (map (D.getNodePriority rs ns) q) n a) (g : n ≤ 512) where
+module _ (rs : List Rec) (ns : List Node) (q : List ℕ) {n : ℕ} {a : List ℕ} (l : Listed (map (D.getNodePriority rs ns) q) n a) (g : n ≤ mostIdentifiers) where
   pub many : length q ≡ n
   many = sym (length-map q (D.getNodePriority rs ns)) ∙ listed-count l g
 
@@ -114,7 +115,7 @@ module _ (rs : List Rec) (ns : List Node) (q : List ℕ) {n : ℕ} {a : List ℕ
   search-end k z e = sym e ∙ class-end rs ns q k z ∙ sym (taken-out q n (omega (arith, many)))
 
   -- v is read at position i
-  module _ (k i v : ℕ) (h : i < n) (e : fromPlace rs ns q k i ≡ D.pop rs ns q) (read : (l : List ℕ) (m : ℕ) → Listed l m a → m ≤ 512 → v ≡ getD l i 0) where
+  module _ (k i v : ℕ) (h : i < n) (e : fromPlace rs ns q k i ≡ D.pop rs ns q) (read : (l : List ℕ) (m : ℕ) → Listed l m a → m ≤ mostIdentifiers → v ≡ getD l i 0) where
     seen : v ≡ D.getNodePriority rs ns (getD q i 0)
     seen = read _ n l g ∙ get-map (D.getNodePriority rs ns) q i (omega (arith, many, h))
 
@@ -142,7 +143,7 @@ map-append f (x ∷ xs) ys = ap (λ (l : List ℕ). f x ∷ l) (map-append f xs 
 pub classing-start : (f : ℕ → ℕ) (q more : List ℕ) (m : ℕ) {a : List ℕ} → length q ≡ m → Listed (map f q) m a → Listed (map f (take m (q ++ more))) m a
 classing-start f q more m {a} e l = subst (λ (v : List ℕ). Listed (map f v) m a) (sym (take-at q more m e)) l
 
-pub classing-next : (f : ℕ → ℕ) (q : List ℕ) (i x v : ℕ) {a b : List ℕ} {n : ℕ} → i < length q → i < 512 → Listed (map f (take i q)) i a → x ≡ getD q i 0 → v ≡ f x →
+pub classing-next : (f : ℕ → ℕ) (q : List ℕ) (i x v : ℕ) {a b : List ℕ} {n : ℕ} → i < length q → i < mostIdentifiers → Listed (map f (take i q)) i a → x ≡ getD q i 0 → v ≡ f x →
     ((l : List ℕ) → Listed l i a → Listed (l ++ (v ∷ [])) n b) → Listed (map f (take (i + 1) q)) (i + 1) b
 classing-next f q i x v {a} {b} {n} h low l e z put =
     let got = put (map f (take i q)) l in
@@ -168,7 +169,7 @@ without-map : (f : ℕ → ℕ) (q : List ℕ) (i : ℕ) → without (map f q) i
 unfolding without
 without-map f q i = sym (map-append f (take i q) (drop (suc i) q) ∙ rw (take-map f i q, drop-map f (suc i) q))
 
-module _ (f : ℕ → ℕ) (q : List ℕ) {n : ℕ} {a b : List ℕ} (p : Listed q n a) (k : Listed (map f q) n b) (g : n ≤ 512) (o : Option D.Popped) (at : ℕ) (e : o ≡ takenAt q at) where
+module _ (f : ℕ → ℕ) (q : List ℕ) {n : ℕ} {a b : List ℕ} (p : Listed q n a) (k : Listed (map f q) n b) (g : n ≤ mostIdentifiers) (o : Option D.Popped) (at : ℕ) (e : o ≡ takenAt q at) where
   pub pop-none : n ≤ at → Answered f q o P.None a b
   unfolding answer afterwards
   pop-none h =

@@ -4,6 +4,10 @@ use arrays::nth;
 use arrays::push;
 use arrays::remove;
 use formula::priority_of;
+use limits::Classes;
+use limits::Formulas;
+use limits::Nodes;
+use limits::Waiting;
 use tree::ProofTreeNodeID;
 use tree::formula_of;
 use tree::left_of;
@@ -13,6 +17,7 @@ ghost use mathlib.Core.Path.{_≡_};
 ghost use mathlib.Core.List.{List, _++_, map};
 ghost use Prim.Native.Nat.{ℕ, _≤_};
 ghost use lib.ListN.{length};
+ghost use Rattle.definition.specs.Limits.{mostIdentifiers, mostFormulas};
 ghost use Rattle.arrays.specs.Listed.{Listed};
 ghost use Rattle.definition.specs.Records.{Rec};
 ghost use Rattle.definition.specs.Tree.{Node};
@@ -29,13 +34,8 @@ pub enum Popped {
 }
 
 // The class of a node: 0 is first, 1 in the middle, 2 last.
-fn get_node_priority(
-    formulas: &[u16; 5120],
-    count: usize,
-    tree: &[u16; 4608],
-    x: ProofTreeNodeID,
-) -> u16
-    ensures { λ r. ⌜ ((rs : List Rec) (ns : List Node) → Recorded rs count (now (formulas .entry)) → count ≤ 1280 → length ns ≤ 512 → now (tree .entry) ≡ lay ns
+fn get_node_priority(formulas: &Formulas, count: usize, tree: &Nodes, x: ProofTreeNodeID) -> u16
+    ensures { λ r. ⌜ ((rs : List Rec) (ns : List Node) → Recorded rs count (now (formulas .entry)) → count ≤ mostFormulas → length ns ≤ mostIdentifiers → now (tree .entry) ≡ lay ns
         → r ≡ getNodePriority rs ns (x .0)) ⌝ }
 {
     priority_of(formulas, count, formula_of(tree, x))
@@ -43,16 +43,16 @@ fn get_node_priority(
 
 // The classes of the waiting nodes, listed from position m on; those before it are listed.
 pub fn classify(
-    formulas: &[u16; 5120],
+    formulas: &Formulas,
     count: usize,
-    tree: &[u16; 4608],
-    wait: &[u16; 512],
+    tree: &Nodes,
+    wait: &Waiting,
     n: usize,
-    classes: &mut [u16; 512],
+    classes: &mut Classes,
     m: usize,
 )
-    ensures { λ r. ⌜ ((rs : List Rec) (ns : List Node) (q more : List ℕ) → Recorded rs count (now (formulas .entry)) → count ≤ 1280 → length ns ≤ 512 → now (tree .entry) ≡ lay ns
-        → Listed (q ++ more) n (now (wait .entry)) → n ≤ 512 → length q ≡ m → Listed (map (getNodePriority rs ns) q) m (now (classes .entry))
+    ensures { λ r. ⌜ ((rs : List Rec) (ns : List Node) (q more : List ℕ) → Recorded rs count (now (formulas .entry)) → count ≤ mostFormulas → length ns ≤ mostIdentifiers → now (tree .entry) ≡ lay ns
+        → Listed (q ++ more) n (now (wait .entry)) → n ≤ mostIdentifiers → length q ≡ m → Listed (map (getNodePriority rs ns) q) m (now (classes .entry))
         → Listed (map (getNodePriority rs ns) (q ++ more)) n (now (classes .exit))) ⌝ }
 {
     let mut i = m;
@@ -65,8 +65,8 @@ pub fn classify(
 }
 
 // The position of the first waiting node of the most urgent class; n where none waits.
-fn first_urgent(classes: &[u16; 512], n: usize) -> usize
-    ensures { λ r. ⌜ ((rs : List Rec) (ns : List Node) (q : List ℕ) → Listed (map (getNodePriority rs ns) q) n (now (classes .entry)) → n ≤ 512 → pop rs ns q ≡ takenAt q r) ⌝ }
+fn first_urgent(classes: &Classes, n: usize) -> usize
+    ensures { λ r. ⌜ ((rs : List Rec) (ns : List Node) (q : List ℕ) → Listed (map (getNodePriority rs ns) q) n (now (classes .entry)) → n ≤ mostIdentifiers → pop rs ns q ≡ takenAt q r) ⌝ }
 {
     let mut class: u16 = 0;
     'classes: loop {
@@ -85,8 +85,8 @@ fn first_urgent(classes: &[u16; 512], n: usize) -> usize
 }
 
 // Takes the first waiting node of the most urgent class out, and its class.
-pub fn pop(wait: &mut [u16; 512], classes: &mut [u16; 512], n: usize) -> Popped
-    ensures { λ r. ⌜ ((rs : List Rec) (ns : List Node) (q : List ℕ) → Listed q n (now (wait .entry)) → Listed (map (getNodePriority rs ns) q) n (now (classes .entry)) → n ≤ 512
+pub fn pop(wait: &mut Waiting, classes: &mut Classes, n: usize) -> Popped
+    ensures { λ r. ⌜ ((rs : List Rec) (ns : List Node) (q : List ℕ) → Listed q n (now (wait .entry)) → Listed (map (getNodePriority rs ns) q) n (now (classes .entry)) → n ≤ mostIdentifiers
         → (r ≡ answer (pop rs ns q)) × Listed (afterwards q (pop rs ns q)) (length (afterwards q (pop rs ns q))) (now (wait .exit))
         × Listed (map (getNodePriority rs ns) (afterwards q (pop rs ns q))) (length (afterwards q (pop rs ns q))) (now (classes .exit))) ⌝ }
 {
@@ -102,13 +102,13 @@ pub fn pop(wait: &mut [u16; 512], classes: &mut [u16; 512], n: usize) -> Popped
 
 // The nodes at and below x: left, middle and right, then x itself. A tree meets each node once, so that none is queued twice.
 pub fn push_tree_node(
-    tree: &[u16; 4608],
-    wait: &mut [u16; 512],
+    tree: &Nodes,
+    wait: &mut Waiting,
     n: usize,
     x: ProofTreeNodeID,
     depth: usize,
 ) -> usize
-    ensures { λ r. ⌜ ((ns : List Node) (q : List ℕ) → length ns ≤ 512 → now (tree .entry) ≡ lay ns → Listed q n (now (wait .entry))
+    ensures { λ r. ⌜ ((ns : List Node) (q : List ℕ) → length ns ≤ mostIdentifiers → now (tree .entry) ≡ lay ns → Listed q n (now (wait .entry))
         → Listed (pushTreeNode depth ns q (x .0)) r (now (wait .exit))) ⌝ }
 {
     if depth == 0 {

@@ -4,6 +4,7 @@ use mathlib.Core.Path.{_≡_, refl, sym}
 use mathlib.Core.List.{List}
 use borrow.Author.Tests.{eq-eqb, ne-eqb}
 use lib.ListN.{length, getD, List·getD-eq-default}
+use Rattle.definition.specs.Limits.{mostFormulas}
 use Rattle.definition.specs.Records.{Kind, Atomic, Non, And, Or, Imply, BiImply, StrictImply, Possible, Necessary, Unknown, Comment, Rec, numberOf, recAt, formulaOf}
 use Rattle.definition.specs.Rules.{expansion, expansionBy, nonExpansion}
 use Rattle.formula.specs.Recorded.{Recorded}
@@ -83,7 +84,7 @@ module _ (rs : List Rec) (f l : ℕ) where
   choice Comment m = refl
 
 -- what `expand` reads
-pub chosen : {rs : List Rec} {n : ℕ} {a : List ℕ} {v : LogicRule} (f k l i at p q : ℕ) → Recorded rs n a → n ≤ 1280
+pub chosen : {rs : List Rec} {n : ℕ} {a : List ℕ} {v : LogicRule} (f k l i at p q : ℕ) → Recorded rs n a → n ≤ mostFormulas
     → k ≡ numberOf (formulaOf rs f .kind) → l ≡ recAt rs f .left → i ≡ numberOf (recAt rs l .kind)
     → at ≡ ruled k f l → p ≡ recAt rs at .left → q ≡ recAt rs at .right → v ≡ logicRule k i
     → expansionOf v (length rs) p q ≡ expansion rs f

@@ -4,6 +4,7 @@ use mathlib.Core.Path.{_≡_, refl, sym, ap, _∙_, subst}
 use mathlib.Core.List.{List, [], _∷_, _++_, map, reverse, append-assoc, append-nil, map-append}
 use native.Mathlib.Omega.{arith}
 use lib.ListN.{length, length-append, length-map, length-reverse}
+use Rattle.definition.specs.Limits.{mostIdentifiers}
 use Rattle.definition.specs.Tree.{Node, newNode, nodeAt}
 use Rattle.definition.specs.Subtree.{Subtree, withMiddle, withLeftRight, flat, turned, numbered}
 use Rattle.tree.specs.Chain.{chainOf, emptyChain}
@@ -22,13 +23,13 @@ pub adds-both : {n m k : ℕ} {a b c : List ℕ} (xs ys : List Node) → Adds n 
 adds-both {n} {m} {k} {a} {b} {c} xs ys f g ns h = subst (λ (l : List Node). Held l k c) (append-assoc ns xs ys) (g (ns ++ xs) (f ns h))
 
 -- ---- the world
-over : (ns : List Node) {m : ℕ} {b : List ℕ} (xs ys : List Node) → 512 < length ns → Held (ns ++ xs) m b → Held (ns ++ ys) m b
+over : (ns : List Node) {m : ℕ} {b : List ℕ} (xs ys : List Node) → mostIdentifiers < length ns → Held (ns ++ xs) m b → Held (ns ++ ys) m b
 over ns xs ys h (held g e q) = absurd (omega (arith, length-append ns xs))
 over ns xs ys h (tooMany g e) = tooMany g (omega (arith, length-append ns ys))
 
 -- the world is read off the nodes; where they were too many, it does not matter
 pub here-world : {ns : List Node} {n : ℕ} {a b : List ℕ} {r : AppliedHere} (x v : ℕ) (fs : Subtree) → Held ns n a →
-    ((ms : List Node) → length ms ≤ 512 → a ≡ lay ms → v ≡ nodeAt ms x .world) → Here ns x v fs r b → Here ns x (nodeAt ns x .world) fs r b
+    ((ms : List Node) → length ms ≤ mostIdentifiers → a ≡ lay ms → v ≡ nodeAt ms x .world) → Here ns x v fs r b → Here ns x (nodeAt ns x .world) fs r b
 here-world {ns} {n} {a} {b} {r} x v fs (held h e q) f p = subst (λ (w : ℕ). Here ns x w fs r b) (f ns (omega arith) q) p
 here-world {ns} {n} {a} {b} {r} x v fs (tooMany h e) f p =
     record {
@@ -37,7 +38,7 @@ here-world {ns} {n} {a} {b} {r} x v fs (tooMany h e) f p =
       below = λ g. absurd (long g);
     }
   where
-    long : length (withNodes ns x (nodeAt ns x .world) fs) ≤ 512 → ⊥
+    long : length (withNodes ns x (nodeAt ns x .world) fs) ≤ mostIdentifiers → ⊥
     long g = omega (arith, g, e, length-append ns (map (λ (f : ℕ). newNode x f (nodeAt ns x .world)) (flat (turned fs))))
 
 -- ---- the chains: their identifiers were drawn, so they are known where all nodes fit
@@ -49,7 +50,7 @@ module _ {ns : List Node} {n : ℕ} {a : List ℕ} (x w : ℕ) (has : Held ns n 
   nodes-length fs = simp (length-append, length-map, length-reverse)
 
   -- the first identifier of nodes that are made where n are issued
-  first : {s : ℕ} → s ≡ idAt n → length ns < 512 → s ≡ length ns
+  first : {s : ℕ} → s ≡ idAt n → length ns < mostIdentifiers → s ≡ length ns
   first e h = let g = held-fits has (omega (arith, h)) in let k = held-ok has g .0 in e ∙ id-fits n (omega (arith, h, k)) ∙ sym k
 
   pub here-none : (r : AppliedHere) → r ≡ (record { nodes = n; left = emptyChain; middle = emptyChain; right = emptyChain }) → Here ns x w (withMiddle []) r a
@@ -63,7 +64,7 @@ module _ {ns : List Node} {n : ℕ} {a : List ℕ} (x w : ℕ) (has : Held ns n 
       let z : length ns + 0 ≡ length ns = omega arith in
       let same : nodes fs ≡ map (λ (f : ℕ). newNode x f w) (reverse fs ++ []) = ap (map (λ (f : ℕ). newNode x f w)) (sym (append-nil (reverse fs))) in
       let t : length (ns ++ map (λ (f : ℕ). newNode x f w) (reverse fs ++ [])) ≡ length ns + length fs = ap (λ (l : List Node). length (ns ++ l)) (sym same) ∙ nodes-length fs in
-      let at : length (ns ++ map (λ (f : ℕ). newNode x f w) (reverse fs ++ [])) ≤ 512 → s ≡ length ns = λ h. first id (omega (arith, h, t)) in
+      let at : length (ns ++ map (λ (f : ℕ). newNode x f w) (reverse fs ++ [])) ≤ mostIdentifiers → s ≡ length ns = λ h. first id (omega (arith, h, t)) in
       rw e
       record {
         nodes = held-as (ns ++ map (λ (f : ℕ). newNode x f w) (reverse fs ++ [])) (ap (λ (l : List Node). ns ++ l) same) (adds ns has);
@@ -82,8 +83,8 @@ module _ {ns : List Node} {n : ℕ} {a : List ℕ} (x w : ℕ) (has : Held ns n 
       let parts : nodes fs ++ map (λ (f : ℕ). newNode x f w) (reverse gs) ≡ both = sym (map-append (λ (f : ℕ). newNode x f w) (reverse fs) (reverse gs)) in
       let t : length (ns ++ both) ≡ length ns + (length fs + length gs) = simp (length-append, length-map, length-reverse) in
       let half = nodes-length fs in
-      let left : length (ns ++ both) ≤ 512 → s ≡ length ns = λ h. first id (omega (arith, h, t)) in
-      let right : length (ns ++ both) ≤ 512 → s2 ≡ length ns + length fs = λ h.
+      let left : length (ns ++ both) ≤ mostIdentifiers → s ≡ length ns = λ h. first id (omega (arith, h, t)) in
+      let right : length (ns ++ both) ≤ mostIdentifiers → s2 ≡ length ns + length fs = λ h.
       (let g = held-fits (adds ns has) (omega (arith, h, t, half)) in
       let j = held-ok (adds ns has) g .0 in
       id2 ∙ id-fits k (omega (arith, h, t, half, j, same)) ∙ sym j ∙ half) in

@@ -2,6 +2,7 @@
 use Prim.Native.Nat.{ℕ, _≤_}
 use mathlib.Core.Path.{_≡_}
 use mathlib.Core.List.{List, _++_}
+use Rattle.definition.specs.Limits.{mostFormulas}
 use Rattle.definition.specs.Records as kind
 use Rattle.definition.specs.Records.{Rec, made}
 use Rattle.definition.specs.Rules.{Expansion, expansionBy, nonExpansion}
@@ -37,4 +38,4 @@ expansionOf NonNecessary = nonExpansion kind.Necessary
 -- the array holds the records and those that the rule makes; where they fit, the consequence is the rule
 pub record Expands (rs : List Rec) (e : Expansion) (r : Expanded) (a : List ℕ) : Type 0 where
   pub records : Recorded (rs ++ e .made) (r .formulas) a
-  pub rule : r .formulas ≤ 1280 → consequenceOf (r .rule) ≡ e .rule
+  pub rule : r .formulas ≤ mostFormulas → consequenceOf (r .rule) ≡ e .rule

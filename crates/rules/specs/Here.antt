@@ -3,6 +3,7 @@ use Prim.Native.Nat.{ℕ, _≤_}
 use mathlib.Core.Path.{_≡_}
 use mathlib.Core.List.{List, [], _++_, map}
 use lib.ListN.{length}
+use Rattle.definition.specs.Limits.{mostIdentifiers}
 use Rattle.definition.specs.Rules.{Rule, nothing, down, split, asPossible, asNecessary}
 use Rattle.definition.specs.Tree.{Node, newNode}
 use Rattle.definition.specs.Subtree.{Subtree, withMiddle, withLeftRight, flat, turned, numbered}
@@ -36,6 +37,6 @@ inLeftRight nodes left right count = record { nodes = nodes; left = fallingChain
 -- the table holds the nodes and those of the formulas; where all fit, the chains are theirs, and no identifier is beyond them
 pub record Here (ns : List Node) (x w : ℕ) (fs : Subtree) (r : AppliedHere) (a : List ℕ) : Type 0 where
   pub nodes : Held (withNodes ns x w fs) (r .nodes) a
-  pub chains : length (withNodes ns x w fs) ≤ 512 → subtreeOf r ≡ turned (numbered (length ns) fs)
-  pub below : length (withNodes ns x w fs) ≤ 512 →
+  pub chains : length (withNodes ns x w fs) ≤ mostIdentifiers → subtreeOf r ≡ turned (numbered (length ns) fs)
+  pub below : length (withNodes ns x w fs) ≤ mostIdentifiers →
       (Below (r .left) (length (withNodes ns x w fs)) × Below (r .middle) (length (withNodes ns x w fs))) × Below (r .right) (length (withNodes ns x w fs))

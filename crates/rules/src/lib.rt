@@ -2,6 +2,8 @@
 // Of a call whose arrays lay out nothing of the kind that its contract names: it ends and stays in bounds; its outcome is free.
 use formula::FormulaNumber;
 use graph::PossibleWorld;
+use limits::Formulas;
+use limits::Nodes;
 use tree::Chain;
 use tree::Issued;
 use tree::ProofTreeNodeID;
@@ -105,7 +107,7 @@ fn plain(count: usize, rule: Consequence) -> Expanded
     }
 }
 
-fn imply(formulas: &mut [u16; 5120], count: usize, p: FormulaNumber, q: FormulaNumber) -> Expanded
+fn imply(formulas: &mut Formulas, count: usize, p: FormulaNumber, q: FormulaNumber) -> Expanded
     ensures { λ r. ⌜ ((rs : List Rec) → Recorded rs count (now (formulas .entry)) → Expands rs (saidExpansion kind.Imply (length rs) (p .0) (q .0)) r (now (formulas .exit))) ⌝ }
 {
     let non_p = formula::next_formula(count);
@@ -117,7 +119,7 @@ fn imply(formulas: &mut [u16; 5120], count: usize, p: FormulaNumber, q: FormulaN
 }
 
 fn strict_imply(
-    formulas: &mut [u16; 5120],
+    formulas: &mut Formulas,
     count: usize,
     p: FormulaNumber,
     q: FormulaNumber,
@@ -132,12 +134,7 @@ fn strict_imply(
     }
 }
 
-fn non_imply(
-    formulas: &mut [u16; 5120],
-    count: usize,
-    p: FormulaNumber,
-    q: FormulaNumber,
-) -> Expanded
+fn non_imply(formulas: &mut Formulas, count: usize, p: FormulaNumber, q: FormulaNumber) -> Expanded
     ensures { λ r. ⌜ ((rs : List Rec) → Recorded rs count (now (formulas .entry)) → Expands rs (nonExpansion kind.Imply (length rs) (p .0) (q .0)) r (now (formulas .exit))) ⌝ }
 {
     let non_q = formula::next_formula(count);
@@ -148,12 +145,7 @@ fn non_imply(
     }
 }
 
-fn bi_imply(
-    formulas: &mut [u16; 5120],
-    count: usize,
-    p: FormulaNumber,
-    q: FormulaNumber,
-) -> Expanded
+fn bi_imply(formulas: &mut Formulas, count: usize, p: FormulaNumber, q: FormulaNumber) -> Expanded
     ensures { λ r. ⌜ ((rs : List Rec) → Recorded rs count (now (formulas .entry)) → Expands rs (saidExpansion kind.BiImply (length rs) (p .0) (q .0)) r (now (formulas .exit))) ⌝ }
 {
     let non_q = formula::next_formula(count);
@@ -166,7 +158,7 @@ fn bi_imply(
     }
 }
 
-fn non_and(formulas: &mut [u16; 5120], count: usize, p: FormulaNumber, q: FormulaNumber) -> Expanded
+fn non_and(formulas: &mut Formulas, count: usize, p: FormulaNumber, q: FormulaNumber) -> Expanded
     ensures { λ r. ⌜ ((rs : List Rec) → Recorded rs count (now (formulas .entry)) → Expands rs (nonExpansion kind.And (length rs) (p .0) (q .0)) r (now (formulas .exit))) ⌝ }
 {
     let non_p = formula::next_formula(count);
@@ -179,7 +171,7 @@ fn non_and(formulas: &mut [u16; 5120], count: usize, p: FormulaNumber, q: Formul
     }
 }
 
-fn non_or(formulas: &mut [u16; 5120], count: usize, p: FormulaNumber, q: FormulaNumber) -> Expanded
+fn non_or(formulas: &mut Formulas, count: usize, p: FormulaNumber, q: FormulaNumber) -> Expanded
     ensures { λ r. ⌜ ((rs : List Rec) → Recorded rs count (now (formulas .entry)) → Expands rs (nonExpansion kind.Or (length rs) (p .0) (q .0)) r (now (formulas .exit))) ⌝ }
 {
     let non_q = formula::next_formula(count);
@@ -193,7 +185,7 @@ fn non_or(formulas: &mut [u16; 5120], count: usize, p: FormulaNumber, q: Formula
 }
 
 fn non_bi_imply(
-    formulas: &mut [u16; 5120],
+    formulas: &mut Formulas,
     count: usize,
     p: FormulaNumber,
     q: FormulaNumber,
@@ -211,7 +203,7 @@ fn non_bi_imply(
 }
 
 fn non_strict_imply(
-    formulas: &mut [u16; 5120],
+    formulas: &mut Formulas,
     count: usize,
     p: FormulaNumber,
     q: FormulaNumber,
@@ -228,7 +220,7 @@ fn non_strict_imply(
     }
 }
 
-fn non_possible(formulas: &mut [u16; 5120], count: usize, p: FormulaNumber) -> Expanded
+fn non_possible(formulas: &mut Formulas, count: usize, p: FormulaNumber) -> Expanded
     ensures { λ r. ⌜ ((rs : List Rec) (q : ℕ) → Recorded rs count (now (formulas .entry)) → Expands rs (nonExpansion kind.Possible (length rs) (p .0) q) r (now (formulas .exit))) ⌝ }
 {
     let non_p = formula::next_formula(count);
@@ -241,7 +233,7 @@ fn non_possible(formulas: &mut [u16; 5120], count: usize, p: FormulaNumber) -> E
     }
 }
 
-fn non_necessary(formulas: &mut [u16; 5120], count: usize, p: FormulaNumber) -> Expanded
+fn non_necessary(formulas: &mut Formulas, count: usize, p: FormulaNumber) -> Expanded
     ensures { λ r. ⌜ ((rs : List Rec) (q : ℕ) → Recorded rs count (now (formulas .entry)) → Expands rs (nonExpansion kind.Necessary (length rs) (p .0) q) r (now (formulas .exit))) ⌝ }
 {
     let non_p = formula::next_formula(count);
@@ -256,7 +248,7 @@ fn non_necessary(formulas: &mut [u16; 5120], count: usize, p: FormulaNumber) -> 
 
 // The records of a rule, and its consequence; p and q are the fields that the rule reads.
 fn expand_by(
-    formulas: &mut [u16; 5120],
+    formulas: &mut Formulas,
     count: usize,
     rule: LogicRule,
     p: FormulaNumber,
@@ -285,7 +277,7 @@ fn expand_by(
 }
 
 // The rule of a node's formula: its records are made, and its consequence is answered.
-pub fn expand(formulas: &mut [u16; 5120], count: usize, f: FormulaNumber) -> Expanded
+pub fn expand(formulas: &mut Formulas, count: usize, f: FormulaNumber) -> Expanded
     ensures { λ r. ⌜ ((rs : List Rec) → Recorded rs count (now (formulas .entry)) → Expands rs (expansion rs (f .0)) r (now (formulas .exit))) ⌝ }
 {
     let outer = formula::formula_kind(formulas, count, f);
@@ -363,7 +355,7 @@ fn with_left_right_nodes(
 
 // A node and the one below it, which gets its identifier first: that identifier, and the count after both.
 fn new_node_with_subnode(
-    tree: &mut [u16; 4608],
+    tree: &mut Nodes,
     len: usize,
     x: ProofTreeNodeID,
     w: PossibleWorld,
@@ -379,7 +371,7 @@ fn new_node_with_subnode(
 }
 
 fn down_one(
-    tree: &mut [u16; 4608],
+    tree: &mut Nodes,
     len: usize,
     x: ProofTreeNodeID,
     w: PossibleWorld,
@@ -393,7 +385,7 @@ fn down_one(
 }
 
 fn down_two(
-    tree: &mut [u16; 4608],
+    tree: &mut Nodes,
     len: usize,
     x: ProofTreeNodeID,
     w: PossibleWorld,
@@ -408,7 +400,7 @@ fn down_two(
 }
 
 fn split_one(
-    tree: &mut [u16; 4608],
+    tree: &mut Nodes,
     len: usize,
     x: ProofTreeNodeID,
     w: PossibleWorld,
@@ -426,7 +418,7 @@ fn split_one(
 
 // The left chain is p above q, the right one s above t.
 fn split_two(
-    tree: &mut [u16; 4608],
+    tree: &mut Nodes,
     len: usize,
     x: ProofTreeNodeID,
     w: PossibleWorld,
@@ -446,7 +438,7 @@ fn split_two(
 
 // The nodes of a rule at the world of node x; none for a rule of the two modal kinds.
 pub fn apply_here(
-    tree: &mut [u16; 4608],
+    tree: &mut Nodes,
     len: usize,
     x: ProofTreeNodeID,
     rule: Consequence,

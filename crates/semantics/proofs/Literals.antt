@@ -5,6 +5,7 @@ use mathlib.Core.Bool.{Bool, true, false, _&&_}
 use mathlib.Core.List.{List, [], _∷_}
 use lib.Dec.{eqb}
 use borrow.Author.Tests.{eq-eqb, ne-eqb}
+use Rattle.definition.specs.Limits.{mostFormulas}
 use Rattle.definition.specs.Lists.{empty}
 use Rattle.definition.proofs.Lists.{true-false}
 use Rattle.definition.specs.Records.{Rec, numberOf, recAt, formulaOf}
@@ -72,7 +73,7 @@ module _ (rs : List Rec) (p q : Rec) where
   pair-both a b ep eq = rw (← ep, ← eq) refl
 
 -- ---- a comment says and denies nothing
-module _ {rs : List Rec} {n : ℕ} {a : List ℕ} (p : Recorded rs n a) (h : n ≤ 1280) (f : ℕ) where
+module _ {rs : List Rec} {n : ℕ} {a : List ℕ} (p : Recorded rs n a) (h : n ≤ mostFormulas) (f : ℕ) where
   pub said-formula : said rs (formulaOf rs f) ≡ said rs (recAt rs f)
   unfolding said atomsOf atomOf numberOf
   said-formula = formula-as (said rs) refl p h f

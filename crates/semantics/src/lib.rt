@@ -4,10 +4,12 @@ use formula::FormulaNumber;
 use formula::kind_at;
 use formula::left_at;
 use formula::right_at;
+use limits::Formulas;
 ghost use mathlib.Core.Path.{_≡_};
 ghost use mathlib.Core.Bool.{_&&_};
 ghost use mathlib.Core.List.{List};
 ghost use Prim.Native.Nat.{_≤_};
+ghost use Rattle.definition.specs.Limits.{mostFormulas};
 ghost use Rattle.definition.specs.Lists.{empty};
 ghost use Rattle.definition.specs.Records.{Rec, recAt, formulaOf};
 ghost use Rattle.definition.specs.Contradiction.{atomOf, atomsOf, said, denied, opposed, areFormulasContradictory};
@@ -22,8 +24,8 @@ pub enum Literal {
 }
 
 // The number of an atom.
-fn atom_of(formulas: &[u16; 5120], count: usize, f: FormulaNumber) -> Literal
-    ensures { λ r. ⌜ ((rs : List Rec) → Recorded rs count (now (formulas .entry)) → count ≤ 1280 → atomsIn r ≡ atomOf rs (recAt rs (f .0))) ⌝ }
+fn atom_of(formulas: &Formulas, count: usize, f: FormulaNumber) -> Literal
+    ensures { λ r. ⌜ ((rs : List Rec) → Recorded rs count (now (formulas .entry)) → count ≤ mostFormulas → atomsIn r ≡ atomOf rs (recAt rs (f .0))) ⌝ }
 {
     if kind_at(formulas, count, f) != 0 {
         return Literal::Nothing;
@@ -33,8 +35,8 @@ fn atom_of(formulas: &[u16; 5120], count: usize, f: FormulaNumber) -> Literal
 }
 
 // Of an atom its number, of a BiImply of two atoms both.
-fn atoms_of(formulas: &[u16; 5120], count: usize, f: FormulaNumber) -> Literal
-    ensures { λ r. ⌜ ((rs : List Rec) → Recorded rs count (now (formulas .entry)) → count ≤ 1280 → atomsIn r ≡ atomsOf rs (recAt rs (f .0))) ⌝ }
+fn atoms_of(formulas: &Formulas, count: usize, f: FormulaNumber) -> Literal
+    ensures { λ r. ⌜ ((rs : List Rec) → Recorded rs count (now (formulas .entry)) → count ≤ mostFormulas → atomsIn r ≡ atomsOf rs (recAt rs (f .0))) ⌝ }
 {
     if kind_at(formulas, count, f) != 5 {
         return atom_of(formulas, count, f);
@@ -53,8 +55,8 @@ fn atoms_of(formulas: &[u16; 5120], count: usize, f: FormulaNumber) -> Literal
 }
 
 // What a formula says: an atom, a BiImply of two atoms, Non Non of an atom.
-fn said(formulas: &[u16; 5120], count: usize, f: FormulaNumber) -> Literal
-    ensures { λ r. ⌜ ((rs : List Rec) → Recorded rs count (now (formulas .entry)) → count ≤ 1280 → atomsIn r ≡ said rs (formulaOf rs (f .0))) ⌝ }
+fn said(formulas: &Formulas, count: usize, f: FormulaNumber) -> Literal
+    ensures { λ r. ⌜ ((rs : List Rec) → Recorded rs count (now (formulas .entry)) → count ≤ mostFormulas → atomsIn r ≡ said rs (formulaOf rs (f .0))) ⌝ }
 {
     if kind_at(formulas, count, f) != 1 {
         return atoms_of(formulas, count, f);
@@ -67,8 +69,8 @@ fn said(formulas: &[u16; 5120], count: usize, f: FormulaNumber) -> Literal
 }
 
 // What a formula denies: the atom, or the BiImply of two atoms, under its Non.
-fn denied(formulas: &[u16; 5120], count: usize, f: FormulaNumber) -> Literal
-    ensures { λ r. ⌜ ((rs : List Rec) → Recorded rs count (now (formulas .entry)) → count ≤ 1280 → atomsIn r ≡ denied rs (formulaOf rs (f .0))) ⌝ }
+fn denied(formulas: &Formulas, count: usize, f: FormulaNumber) -> Literal
+    ensures { λ r. ⌜ ((rs : List Rec) → Recorded rs count (now (formulas .entry)) → count ≤ mostFormulas → atomsIn r ≡ denied rs (formulaOf rs (f .0))) ⌝ }
 {
     if kind_at(formulas, count, f) != 1 {
         return Literal::Nothing;
@@ -111,8 +113,8 @@ pub struct Claim {
     pub denies: Literal,
 }
 
-pub fn claim_of(formulas: &[u16; 5120], count: usize, f: FormulaNumber) -> Claim
-    ensures { λ r. ⌜ ((rs : List Rec) → Recorded rs count (now (formulas .entry)) → count ≤ 1280 → Claims rs (formulaOf rs (f .0)) r) ⌝ }
+pub fn claim_of(formulas: &Formulas, count: usize, f: FormulaNumber) -> Claim
+    ensures { λ r. ⌜ ((rs : List Rec) → Recorded rs count (now (formulas .entry)) → count ≤ mostFormulas → Claims rs (formulaOf rs (f .0)) r) ⌝ }
 {
     Claim {
         says: said(formulas, count, f),
@@ -130,8 +132,8 @@ pub fn is_no_literal(c: Claim) -> bool
 }
 
 // The formula of a claim and g contradict one another.
-pub fn contradicts(c: Claim, formulas: &[u16; 5120], count: usize, g: FormulaNumber) -> bool
-    ensures { λ r. ⌜ ((rs : List Rec) (p : Rec) → Claims rs p c → Recorded rs count (now (formulas .entry)) → count ≤ 1280 → r ≡ areFormulasContradictory rs p (formulaOf rs (g .0))) ⌝ }
+pub fn contradicts(c: Claim, formulas: &Formulas, count: usize, g: FormulaNumber) -> bool
+    ensures { λ r. ⌜ ((rs : List Rec) (p : Rec) → Claims rs p c → Recorded rs count (now (formulas .entry)) → count ≤ mostFormulas → r ≡ areFormulasContradictory rs p (formulaOf rs (g .0))) ⌝ }
 {
     let says = c.says;
     let denies = c.denies;

@@ -7,6 +7,7 @@ use native.Mathlib.Omega.{arith}
 use native.Mathlib.Numerals.{add-one}
 use lib.ListN.{length, getD, take, length-append}
 use lib.Seq.{take-suc, take-all}
+use Rattle.definition.specs.Limits.{mostIdentifiers}
 use Rattle.arrays.specs.Listed.{Listed}
 use Rattle.definition.specs.Lists.{upFrom, Each}
 use Rattle.definition.specs.Tree.{Node, nodeAt, newNode}
@@ -69,10 +70,10 @@ copying-start t ch h = rw append-nil h
 
 pub copying-next : (t : List Node) (c : Chain) (k : ℕ) {m m′ : ℕ} {a b : List ℕ} (x s f w : ℕ) → k < c .count → Below c (length t)
     → Held (more t (take k (chainOf c))) m a
-    → (Below c 512 → k < c .count → x ≡ getD (chainOf c) k 0)
-    → ((ns : List Node) → length ns ≤ 512 → a ≡ lay ns → s ≡ nodeAt ns x .spawner)
-    → ((ns : List Node) → length ns ≤ 512 → a ≡ lay ns → f ≡ nodeAt ns x .formula)
-    → ((ns : List Node) → length ns ≤ 512 → a ≡ lay ns → w ≡ nodeAt ns x .world)
+    → (Below c mostIdentifiers → k < c .count → x ≡ getD (chainOf c) k 0)
+    → ((ns : List Node) → length ns ≤ mostIdentifiers → a ≡ lay ns → s ≡ nodeAt ns x .spawner)
+    → ((ns : List Node) → length ns ≤ mostIdentifiers → a ≡ lay ns → f ≡ nodeAt ns x .formula)
+    → ((ns : List Node) → length ns ≤ mostIdentifiers → a ≡ lay ns → w ≡ nodeAt ns x .world)
     → ((ns : List Node) → Held ns m a → Held (ns ++ (newNode s f w ∷ [])) m′ b)
     → Held (more t (take (k + 1) (chainOf c))) m′ b
 copying-next t c k {m} {m′} {a} {b} x s f w h g p ex es ef ew new =
@@ -92,10 +93,10 @@ copying-next t c k {m} {m′} {a} {b} x s f w h g p ex es ef ew new =
     longer : length t ≤ length ms
     longer = omega (arith, length-append t (map (copied t) (take k (chainOf c))))
 
-    same : m′ ≤ 512 → Held ms m a → ms ++ (newNode s f w ∷ []) ≡ ms ++ (copied t (getD ch k 0) ∷ [])
+    same : m′ ≤ mostIdentifiers → Held ms m a → ms ++ (newNode s f w ∷ []) ≡ ms ++ (copied t (getD ch k 0) ∷ [])
     same q (tooMany i j) = absurd (omega (arith, held-ok (new ms p) q .0, length-append ms (newNode s f w ∷ [])))
     same q (held i j l) =
-        let n : length ms ≤ 512 = omega arith in
+        let n : length ms ≤ mostIdentifiers = omega arith in
         let e : x ≡ getD (chainOf c) k 0 = ex (omega (arith, longer)) h in
         let o : nodeAt ms x ≡ nodeAt t (getD (chainOf c) k 0) = ap (nodeAt ms) e ∙ node-append t (map (copied t) (take k (chainOf c))) (getD (chainOf c) k 0) (omega (arith, chain-bound c k h)) in
         ap (λ (v : ℕ). ms ++ (newNode v f w ∷ [])) (es ms n l ∙ ap (λ (y : Node). y .spawner) o)

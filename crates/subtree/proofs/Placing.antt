@@ -7,6 +7,7 @@ use native.Mathlib.Numerals.{add-one}
 use native.Mathlib.Nat.{pos-of-ne-zero}
 use lib.ListN.{length, getD, drop, replicate, length-append, length-map, drop-of-length-le}
 use lib.Seq.{drop-cons}
+use Rattle.definition.specs.Limits.{mostIdentifiers}
 use Rattle.arrays.specs.Listed.{Listed, listed, tooLong}
 use Rattle.arrays.proofs.Listed.{listed-none, listed-count}
 use Rattle.definition.specs.Lists.{filter}
@@ -25,10 +26,10 @@ use Rattle.subtree.proofs.Chains.{more}
 use Rattle.subtree.proofs.Subtrees.{size-of, within-more}
 
 -- ---- a copy below one leaf
-pub copy-placed : (s : ProofSubtree) (t : IssuedSubtree) (ns : List Node) (q : List ℕ) (y : ℕ) {len n w : ℕ} {a a₁ a₂ b b′ : List ℕ} → Held ns len a → (len ≤ 512 → Listed q n b) → Within s (length ns)
+pub copy-placed : (s : ProofSubtree) (t : IssuedSubtree) (ns : List Node) (q : List ℕ) (y : ℕ) {len n w : ℕ} {a a₁ a₂ b b′ : List ℕ} → Held ns len a → (len ≤ mostIdentifiers → Listed q n b) → Within s (length ns)
     → ((ms : List Node) → Held ms len a → Within s (length ms) → Attached ms s t a₁)
-    → ((ms : List Node) → Held ms (t .len) a₁ → (length ms ≤ 512 → Within (t .subtree) (length ms)) → Held (appendSubtreeOnLeaf ms y (subtreeOf (t .subtree))) (t .len) a₂)
-    → ((l : List ℕ) → Listed l n b → Within (t .subtree) 512 → Listed (pushSubtree l (subtreeOf (t .subtree))) w b′)
+    → ((ms : List Node) → Held ms (t .len) a₁ → (length ms ≤ mostIdentifiers → Within (t .subtree) (length ms)) → Held (appendSubtreeOnLeaf ms y (subtreeOf (t .subtree))) (t .len) a₂)
+    → ((l : List ℕ) → Listed l n b → Within (t .subtree) mostIdentifiers → Listed (pushSubtree l (subtreeOf (t .subtree))) w b′)
     → Left (appendCopies ns q (y ∷ []) (subtreeOf s)) (record { nodes = t .len; waiting = w }) a₂ b′
 unfolding appendCopies
 copy-placed s t ns q y {len} {n} {w} {a} {a₁} {a₂} {b} {b′} p f i attaches hangs pushes =
@@ -60,7 +61,7 @@ pub record Copying (goal : Placed) (s : ProofSubtree) (rest : List ℕ) (low : �
   pub longer : low ≤ length (so-far .nodes)
   pub same : appendCopies (so-far .nodes) (so-far .waiting) rest (subtreeOf s) ≡ goal
 
-pub copies-start : (ns : List Node) (q : List ℕ) (s : ProofSubtree) (ls : List ℕ) {len n : ℕ} {a w : List ℕ} → Held ns len a → (len ≤ 512 → Listed q n w)
+pub copies-start : (ns : List Node) (q : List ℕ) (s : ProofSubtree) (ls : List ℕ) {len n : ℕ} {a w : List ℕ} → Held ns len a → (len ≤ mostIdentifiers → Listed q n w)
     → Copying (appendCopies ns q ls (subtreeOf s)) s ls (length ns) (record { nodes = len; waiting = n }) a w
 copies-start ns q s ls p f = record { so-far = record { nodes = ns; waiting = q }; here = record { nodes = p; queue = f }; longer = omega arith; same = refl }
 
@@ -75,7 +76,7 @@ copies-nil t q s = refl
 
 pub copies-next : {goal : Placed} {low : ℕ} {r r′ : Counts} {a a′ w w′ : List ℕ} (s : ProofSubtree) (ls : List ℕ) (k x : ℕ) → k < length ls → x ≡ getD ls k 0 → Within s low
     → Copying goal s (drop k ls) low r a w
-    → ((ns : List Node) (q : List ℕ) → Held ns (r .nodes) a → (r .nodes ≤ 512 → Listed q (r .waiting) w) → Within s (length ns) → Left (appendCopies ns q (x ∷ []) (subtreeOf s)) r′ a′ w′)
+    → ((ns : List Node) (q : List ℕ) → Held ns (r .nodes) a → (r .nodes ≤ mostIdentifiers → Listed q (r .waiting) w) → Within s (length ns) → Left (appendCopies ns q (x ∷ []) (subtreeOf s)) r′ a′ w′)
     → Copying goal s (drop (k + 1) ls) low r′ a′ w′
 copies-next s ls k x h e i c f =
     let t = c .so-far .nodes in
@@ -109,8 +110,8 @@ nil : (l : List ℕ) → length l ≡ 0 → l ≡ []
 nil [] e = refl
 nil (x ∷ l) e = absurd (omega arith)
 
-module _ (s : ProofSubtree) (ns : List Node) (q ls : List ℕ) {m : ℕ} {found : List ℕ} (l : Listed ls m found) (g : m ≤ 512) where
-  pub on-none : {len w : ℕ} {a b : List ℕ} → m ≡ 0 → Held ns len a → (len ≤ 512 → Listed (pushSubtree q (subtreeOf s)) w b)
+module _ (s : ProofSubtree) (ns : List Node) (q ls : List ℕ) {m : ℕ} {found : List ℕ} (l : Listed ls m found) (g : m ≤ mostIdentifiers) where
+  pub on-none : {len w : ℕ} {a b : List ℕ} → m ≡ 0 → Held ns len a → (len ≤ mostIdentifiers → Listed (pushSubtree q (subtreeOf s)) w b)
       → Left (appendOn ns q ls (subtreeOf s)) (record { nodes = len; waiting = w }) a b
   unfolding appendOn
   on-none {len} {w} {a} {b} z p k =
@@ -185,39 +186,39 @@ copies-many (x ∷ ls) t q s h =
       copies-many ls (appendSubtreeOnLeaf u x c) (pushSubtree q c) s h,
     )
 
-on-many : (ls : List ℕ) (t : List Node) (q : List ℕ) (s : Subtree) → 0 < length (flat s) → 0 < length t → 512 < length ls → 512 < length (appendOn t q ls s .nodes)
+on-many : (ls : List ℕ) (t : List Node) (q : List ℕ) (s : Subtree) → 0 < length (flat s) → 0 < length t → mostIdentifiers < length ls → mostIdentifiers < length (appendOn t q ls s .nodes)
 unfolding appendOn
 on-many [] t q s h i j = absurd (omega arith)
 on-many (x ∷ ls) t q s h i j = omega (arith, length-leaf t x s, copies-many ls (appendSubtreeOnLeaf t x s) (pushSubtree q s) s h)
 
-listed-many : {l : List ℕ} {m : ℕ} {a : List ℕ} → Listed l m a → 512 < m → 512 < length l
+listed-many : {l : List ℕ} {m : ℕ} {a : List ℕ} → Listed l m a → mostIdentifiers < m → mostIdentifiers < length l
 listed-many (listed b e q) h = absurd (omega arith)
 listed-many (tooLong b e) h = e
 
 -- what `takers` finds
-pub found-takers : (target : ℕ) (ns : List Node) {len m : ℕ} {a found : List ℕ} → Held ns len a → len ≤ 512 → (length ns ≤ 512 → Treed ns)
-    → ((ms : List Node) → Treed ms → length ms ≡ len → len ≤ 512 → a ≡ lay ms → Listed [] 0 (replicate 512 0) → Listed (filter (takes ms target) (leaves ms)) m found)
+pub found-takers : (target : ℕ) (ns : List Node) {len m : ℕ} {a found : List ℕ} → Held ns len a → len ≤ mostIdentifiers → (length ns ≤ mostIdentifiers → Treed ns)
+    → ((ms : List Node) → Treed ms → length ms ≡ len → len ≤ mostIdentifiers → a ≡ lay ms → Listed [] 0 (replicate mostIdentifiers 0) → Listed (filter (takes ms target) (leaves ms)) m found)
     → Listed (filter (takes ns target) (leaves ns)) m found
 found-takers target ns p h r f = let o = held-ok p h in f ns (r (omega (arith, o .0, h))) (o .0) h (o .1) listed-none
 
 -- ---- the ways out of `append_subtree`
-pub subtree-full : (t : Subtree) (target : ℕ) (ns : List Node) (q : List ℕ) {len n : ℕ} {a w : List ℕ} → 512 < len → Held ns len a → Left (appendSubtree ns q target t) (record { nodes = len; waiting = n }) a w
+pub subtree-full : (t : Subtree) (target : ℕ) (ns : List Node) (q : List ℕ) {len n : ℕ} {a w : List ℕ} → mostIdentifiers < len → Held ns len a → Left (appendSubtree ns q target t) (record { nodes = len; waiting = n }) a w
 subtree-full t target ns q h p = record { nodes = held-long (appendSubtree ns q target t .nodes) p h (ext-subtree ns q target t .longer); queue = λ g. absurd (omega arith) }
 
 -- what the chains of s give is what t gives
-pub subtree-as : (s : ProofSubtree) (t : Subtree) (target : ℕ) (ns : List Node) (q : List ℕ) {len : ℕ} {a : List ℕ} {r : Counts} {b w : List ℕ} → Held ns len a → len ≤ 512 → (length ns ≤ 512 → Chained s t (length ns))
+pub subtree-as : (s : ProofSubtree) (t : Subtree) (target : ℕ) (ns : List Node) (q : List ℕ) {len : ℕ} {a : List ℕ} {r : Counts} {b w : List ℕ} → Held ns len a → len ≤ mostIdentifiers → (length ns ≤ mostIdentifiers → Chained s t (length ns))
     → (Within s (length ns) → Left (appendSubtree ns q target (subtreeOf s)) r b w) → Left (appendSubtree ns q target t) r b w
 subtree-as s t target ns q {r = r} {b} {w} p h c f = let k = c (omega (arith, held-ok p h .0, h)) in subst (λ (x : Subtree). Left (appendSubtree ns q target x) r b w) (k .are) (f (k .within))
 
 module _ (s : ProofSubtree) (target : ℕ) (ns : List Node) (q : List ℕ) where
-  pub subtree-none : {len n : ℕ} {a w : List ℕ} → length (flat (subtreeOf s)) ≡ 0 → Held ns len a → (len ≤ 512 → Listed q n w)
+  pub subtree-none : {len n : ℕ} {a w : List ℕ} → length (flat (subtreeOf s)) ≡ 0 → Held ns len a → (len ≤ mostIdentifiers → Listed q n w)
       → Left (appendSubtree ns q target (subtreeOf s)) (record { nodes = len; waiting = n }) a w
   subtree-none e p f =
       left-as {p = record { nodes = ns; waiting = q }} (appendSubtree ns q target (subtreeOf s)) (sym (subtree-nothing ns q target (subtreeOf s) e)) (record { nodes = p; queue = f })
 
   module _ {m : ℕ} {found : List ℕ} (l : Listed (filter (takes ns target) (leaves ns)) m found) where
-    pub subtree-many : {n : ℕ} {a w : List ℕ} → (length (flat (subtreeOf s)) ≡ 0 → ⊥) → Within s (length ns) → 512 < m
-        → Left (appendSubtree ns q target (subtreeOf s)) (record { nodes = 513; waiting = n }) a w
+    pub subtree-many : {n : ℕ} {a w : List ℕ} → (length (flat (subtreeOf s)) ≡ 0 → ⊥) → Within s (length ns) → mostIdentifiers < m
+        → Left (appendSubtree ns q target (subtreeOf s)) (record { nodes = (suc mostIdentifiers); waiting = n }) a w
     unfolding appendSubtree
     subtree-many e i h =
         let z = pos-of-ne-zero e in
@@ -228,7 +229,7 @@ module _ (s : ProofSubtree) (target : ℕ) (ns : List Node) (q : List ℕ) where
           queue = λ g. absurd (omega arith);
         }
 
-    pub subtree-on : {r : Counts} {b w : List ℕ} → m ≤ 512
-        → ((ls : List ℕ) → Listed ls m found → m ≤ 512 → Left (appendOn ns q ls (subtreeOf s)) r b w) → Left (appendSubtree ns q target (subtreeOf s)) r b w
+    pub subtree-on : {r : Counts} {b w : List ℕ} → m ≤ mostIdentifiers
+        → ((ls : List ℕ) → Listed ls m found → m ≤ mostIdentifiers → Left (appendOn ns q ls (subtreeOf s)) r b w) → Left (appendSubtree ns q target (subtreeOf s)) r b w
     unfolding appendSubtree
     subtree-on h f = f (filter (takes ns target) (leaves ns)) l h

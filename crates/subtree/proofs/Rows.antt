@@ -10,6 +10,8 @@ use native.Mathlib.Numerals.{add-one}
 use lib.Dec.{eqb, eqb·suc-zero}
 use lib.ListN.{length, getD, set, drop, replicate, length-append, drop-of-length-le, List·getD-append}
 use lib.Seq.{drop-cons, getD-append-add}
+use Rattle.definition.specs.Limits.{mostIdentifiers}
+use Rattle.limits.specs.Arrays.{itemFields, itemCells}
 use Rattle.arrays.specs.Data.{pad}
 use Rattle.arrays.specs.Listed.{Listed}
 use Rattle.arrays.proofs.Laws.{getD-pad, snoc-pad}
@@ -82,7 +84,7 @@ result-filled (r ∷ rs) t q = go (some-node (r .count)) refl (result-filled rs)
         f t q ∙ ap (λ (p : Placed). appendLogicRuleResult (p .nodes) (p .waiting) (map itemFrom rs)) (sym (subtree-nothing t q (r .target) s (row-empty r (no-node (r .count) e))))
 
 -- ---- a row more
-pub rows-none : (m : ℕ) → Rows [] 0 (replicate 1536 0) m
+pub rows-none : (m : ℕ) → Rows [] 0 (replicate itemCells 0) m
 unfolding pad
 rows-none m = rows (omega arith) (omega arith) refl refl tt
 
@@ -90,11 +92,11 @@ pub rows-more : {rs : List Row} {n m k : ℕ} {a : List ℕ} → m ≤ k → Row
 rows-more {rs} {n} {m} {k} h (rows b d e q w) = rows b (omega arith) e q (each-map (λ r (i : r .start + r .count ≤ m). omega (arith, i, h)) (filled rs) w)
 rows-more h (tooMany b e) = tooMany b (omega arith)
 
-rows-as : {n m : ℕ} {a : List ℕ} (rs ss : List Row) → filled rs ≡ ss → n ≤ 512 → n ≤ m → length ss ≡ n → a ≡ pad 1536 (concatMap cells ss) → Each (λ (r : Row). r .start + r .count ≤ m) ss → Rows rs n a m
+rows-as : {n m : ℕ} {a : List ℕ} (rs ss : List Row) → filled rs ≡ ss → n ≤ mostIdentifiers → n ≤ m → length ss ≡ n → a ≡ pad itemCells (concatMap cells ss) → Each (λ (r : Row). r .start + r .count ≤ m) ss → Rows rs n a m
 rows-as {n} {m} rs ss e b d l q w =
-    rows b d (ap length e ∙ l) (q ∙ ap (λ (v : List Row). pad 1536 (concatMap cells v)) (sym e)) (subst (λ (v : List Row). Each (λ (r : Row). r .start + r .count ≤ m) v) (sym e) w)
+    rows b d (ap length e ∙ l) (q ∙ ap (λ (v : List Row). pad itemCells (concatMap cells v)) (sym e)) (subst (λ (v : List Row). Each (λ (r : Row). r .start + r .count ≤ m) v) (sym e) w)
 
-cells-length : (rs : List Row) → length (concatMap cells rs) ≡ length rs * 3
+cells-length : (rs : List Row) → length (concatMap cells rs) ≡ length rs * itemFields
 cells-length [] = refl
 cells-length (r ∷ rs) = omega (arith, cells-length rs)
 
@@ -102,8 +104,8 @@ cells-snoc : (rs : List Row) (r : Row) → concatMap cells (rs ++ (r ∷ [])) �
 cells-snoc [] r = refl
 cells-snoc (x ∷ rs) r = ap (λ (l : List ℕ). cells x ++ l) (cells-snoc rs r)
 
-store : (l : List ℕ) (i v : ℕ) {a : List ℕ} → a ≡ pad 1536 l → i ≡ length l → i < 1536 → set a i v ≡ pad 1536 (l ++ (v ∷ []))
-store l i v q e h = ap (λ (b : List ℕ). set b i v) q ∙ ap (λ (j : ℕ). set (pad 1536 l) j v) e ∙ snoc-pad 1536 l v (omega arith)
+store : (l : List ℕ) (i v : ℕ) {a : List ℕ} → a ≡ pad itemCells l → i ≡ length l → i < itemCells → set a i v ≡ pad itemCells (l ++ (v ∷ []))
+store l i v q e h = ap (λ (b : List ℕ). set b i v) q ∙ ap (λ (j : ℕ). set (pad itemCells l) j v) e ∙ snoc-pad itemCells l v (omega arith)
 
 module _ {rs : List Row} {n m : ℕ} {a : List ℕ} (r : Row) (h : m ≤ r .start) where
   pub rows-skip : r .count ≡ 0 → Rows rs n a m → Rows (rs ++ (r ∷ [])) n a (r .start + r .count)
@@ -112,12 +114,12 @@ module _ {rs : List Row} {n m : ℕ} {a : List ℕ} (r : Row) (h : m ≤ r .star
       rows-as (rs ++ (r ∷ [])) (filled rs) (filled-same rs r z) b (omega arith) e q
       (each-map (λ v (i : v .start + v .count ≤ m). omega (arith, i, h)) (filled rs) w)
 
-  pub rows-over : {b : List ℕ} → (r .count ≡ 0 → ⊥) → 512 ≤ n → Rows rs n a m → Rows (rs ++ (r ∷ [])) 513 b (r .start + r .count)
+  pub rows-over : {b : List ℕ} → (r .count ≡ 0 → ⊥) → mostIdentifiers ≤ n → Rows rs n a m → Rows (rs ++ (r ∷ [])) (suc mostIdentifiers) b (r .start + r .count)
   rows-over z g (rows b d e q w) = tooMany (omega arith) (omega (arith, pos-of-ne-zero z))
   rows-over z g (tooMany b e) = tooMany (omega arith) (omega arith)
 
-  pub rows-push : (r .count ≡ 0 → ⊥) → n < 512 → Rows rs n a m
-      → Rows (rs ++ (r ∷ [])) (n + 1) (set (set (set a (n * 3) (r .target)) (n * 3 + 1) (r .start)) (n * 3 + 2) (r .count)) (r .start + r .count)
+  pub rows-push : (r .count ≡ 0 → ⊥) → n < mostIdentifiers → Rows rs n a m
+      → Rows (rs ++ (r ∷ [])) (n + 1) (set (set (set a (n * itemFields) (r .target)) (n * itemFields + 1) (r .start)) (n * itemFields + 2) (r .count)) (r .start + r .count)
   rows-push z g (tooMany b e) = absurd (omega arith)
   rows-push z g (rows b d e q w) =
       let ss = filled rs in
@@ -127,11 +129,11 @@ module _ {rs : List Row} {n m : ℕ} {a : List ℕ} (r : Row) (h : m ≤ r .star
       let i = cells-length ss in
       let j = length-append l x in
       let k = length-append (l ++ x) y in
-      let one = store l (n * 3) (r .target) q (omega arith) (omega arith) in
-      let two = store (l ++ x) (n * 3 + 1) (r .start) one (omega arith) (omega arith) in
-      let all = store ((l ++ x) ++ y) (n * 3 + 2) (r .count) two (omega arith) (omega arith) in
+      let one = store l (n * itemFields) (r .target) q (omega arith) (omega arith) in
+      let two = store (l ++ x) (n * itemFields + 1) (r .start) one (omega arith) (omega arith) in
+      let all = store ((l ++ x) ++ y) (n * itemFields + 2) (r .count) two (omega arith) (omega arith) in
       rows-as (rs ++ (r ∷ [])) (ss ++ (r ∷ [])) (filled-more rs r z) (omega arith) (omega (arith, pos-of-ne-zero z)) (omega (arith, length-append ss (r ∷ [])))
-      (all ∙ ap (pad 1536) (append-assoc (l ++ x) y (r .count ∷ []) ∙ append-assoc l x (r .start ∷ r .count ∷ []) ∙ sym (cells-snoc ss r)))
+      (all ∙ ap (pad itemCells) (append-assoc (l ++ x) y (r .count ∷ []) ∙ append-assoc l x (r .start ∷ r .count ∷ []) ∙ sym (cells-snoc ss r)))
       (each-append (λ (v : Row). v .start + v .count ≤ r .start + r .count) ss (r ∷ [])
       (each-map (λ v (o : v .start + v .count ≤ m). omega (arith, o, h)) ss w) (omega arith, tt))
 
@@ -146,12 +148,12 @@ module _ {rs : List Row} {n lo hi : ℕ} {a : List ℕ} {c : Chain} (target : �
   pub drawn-none : c .count ≡ 0 → Rows (rs ++ (drawn ∷ [])) n a hi
   drawn-none z = ended (rows-skip drawn (omega arith) z p)
 
-  pub drawn-over : {b : List ℕ} → (c .count ≡ 0 → ⊥) → 512 ≤ n → Rows (rs ++ (drawn ∷ [])) 513 b hi
+  pub drawn-over : {b : List ℕ} → (c .count ≡ 0 → ⊥) → mostIdentifiers ≤ n → Rows (rs ++ (drawn ∷ [])) (suc mostIdentifiers) b hi
   drawn-over z g = ended (rows-over drawn (omega arith) z g p)
 
-  pub drawn-push : (c .count ≡ 0 → ⊥) → n < 512 → Rows (rs ++ (drawn ∷ [])) (n + 1) (set (set (set a (n * 3) target) (n * 3 + 1) (c .start .0)) (n * 3 + 2) (c .count)) hi
+  pub drawn-push : (c .count ≡ 0 → ⊥) → n < mostIdentifiers → Rows (rs ++ (drawn ∷ [])) (n + 1) (set (set (set a (n * itemFields) target) (n * itemFields + 1) (c .start .0)) (n * itemFields + 2) (c .count)) hi
   drawn-push z g =
-      subst (λ (x : ℕ). Rows (rs ++ (drawn ∷ [])) (n + 1) (set (set (set a (n * 3) target) (n * 3 + 1) x) (n * 3 + 2) (c .count)) hi) (starts (s .begins))
+      subst (λ (x : ℕ). Rows (rs ++ (drawn ∷ [])) (n + 1) (set (set (set a (n * itemFields) target) (n * itemFields + 1) x) (n * itemFields + 2) (c .count)) hi) (starts (s .begins))
       (ended (rows-push drawn (omega arith) z g p))
     where
       starts : (c .count ≡ 0) ⊎ (c .start .0 ≡ lo) → lo ≡ c .start .0
@@ -162,25 +164,25 @@ module _ {rs : List Row} {n lo hi : ℕ} {a : List ℕ} {c : Chain} (target : �
 abbrev noRow : Row
 noRow = record { target = 0; start = 0; count = 0 }
 
-cells-read : (rs : List Row) (k j : ℕ) → k < length rs → j < 3 → getD (concatMap cells rs) (k * 3 + j) 0 ≡ getD (cells (getD rs k noRow)) j 0
+cells-read : (rs : List Row) (k j : ℕ) → k < length rs → j < itemFields → getD (concatMap cells rs) (k * itemFields + j) 0 ≡ getD (cells (getD rs k noRow)) j 0
 cells-read [] k j h b = absurd (omega arith)
 cells-read (r ∷ rs) zero j h b =
-    let z : 0 * 3 + j ≡ j = omega arith in
+    let z : 0 * itemFields + j ≡ j = omega arith in
     ap (λ (i : ℕ). getD (concatMap cells (r ∷ rs)) i 0) z ∙ List·getD-append (cells r) (concatMap cells rs) 0 j b
 cells-read (r ∷ rs) (suc k) j h b =
-    let z : suc k * 3 + j ≡ 3 + (k * 3 + j) = omega arith in
-    ap (λ (i : ℕ). getD (concatMap cells (r ∷ rs)) i 0) z ∙ getD-append-add (cells r) (concatMap cells rs) (k * 3 + j) 0 ∙ cells-read rs k j (omega arith) b
+    let z : suc k * itemFields + j ≡ itemFields + (k * itemFields + j) = omega arith in
+    ap (λ (i : ℕ). getD (concatMap cells (r ∷ rs)) i 0) z ∙ getD-append-add (cells r) (concatMap cells rs) (k * itemFields + j) 0 ∙ cells-read rs k j (omega arith) b
 
 -- rows whose identifiers fit
-module _ {rs : List Row} {n m : ℕ} {a : List ℕ} (g : m ≤ 512) where
-  pub rows-count : Rows rs n a m → (length (filled rs) ≡ n) × (n ≤ 512)
+module _ {rs : List Row} {n m : ℕ} {a : List ℕ} (g : m ≤ mostIdentifiers) where
+  pub rows-count : Rows rs n a m → (length (filled rs) ≡ n) × (n ≤ mostIdentifiers)
   rows-count (rows b d e q w) = (e, b)
   rows-count (tooMany b e) = absurd (omega arith)
 
-  row-read : (k : ℕ) → k < n → Rows rs n a m → (j : ℕ) → j < 3 → getD a (k * 3 + j) 0 ≡ getD (cells (getD (filled rs) k noRow)) j 0
+  row-read : (k : ℕ) → k < n → Rows rs n a m → (j : ℕ) → j < itemFields → getD a (k * itemFields + j) 0 ≡ getD (cells (getD (filled rs) k noRow)) j 0
   row-read k h (tooMany b e) j i = absurd (omega arith)
   row-read k h (rows b d e q w) j i =
-      ap (λ (l : List ℕ). getD l (k * 3 + j) 0) q ∙ getD-pad 1536 (concatMap cells (filled rs)) (k * 3 + j) ∙ cells-read (filled rs) k j (omega arith) i
+      ap (λ (l : List ℕ). getD l (k * itemFields + j) 0) q ∙ getD-pad itemCells (concatMap cells (filled rs)) (k * itemFields + j) ∙ cells-read (filled rs) k j (omega arith) i
 
   row-below : (k : ℕ) → k < n → Rows rs n a m → getD (filled rs) k noRow .start + getD (filled rs) k noRow .count ≤ m
   row-below k h (tooMany b e) = absurd (omega arith)
@@ -206,7 +208,7 @@ pub record Joining (goal : Placed) (rest : List Row) (low : ℕ) (r : Counts) (a
   pub same : appendLogicRuleResult (so-far .nodes) (so-far .waiting) (map itemFrom rest) ≡ goal
   pub steady : Steady (so-far .nodes) (so-far .waiting) (map itemFrom rest)
 
-pub joining-start : (ns : List Node) (q : List ℕ) (rs : List Row) {len n : ℕ} {a w : List ℕ} → Held ns len a → (len ≤ 512 → Listed q n w) → Steady ns q (map itemFrom rs)
+pub joining-start : (ns : List Node) (q : List ℕ) (rs : List Row) {len n : ℕ} {a w : List ℕ} → Held ns len a → (len ≤ mostIdentifiers → Listed q n w) → Steady ns q (map itemFrom rs)
     → Joining (appendLogicRuleResult ns q (map itemFrom rs)) (filled rs) (length ns) (record { nodes = len; waiting = n }) a w
 joining-start ns q rs p f st =
     record { so-far = record { nodes = ns; waiting = q }; here = record { nodes = p; queue = f }; longer = omega arith; same = result-filled rs ns q; steady = steady-filled rs ns q st }
@@ -225,13 +227,13 @@ result-nil t q = refl
 
 -- what a read of a row's number says
 abbrev Reads : List ℕ → ℕ → ℕ → ℕ → Type 0
-Reads a k j x = k < 512 → j < 3 → x ≡ getD a (k * 3 + j) 0
+Reads a k j x = k < mostIdentifiers → j < itemFields → x ≡ getD a (k * itemFields + j) 0
 
 pub joining-next : {goal : Placed} {low n : ℕ} {r r′ : Counts} {a a′ w w′ items : List ℕ} (rs : List Row) (k : ℕ) (s : ProofSubtree) (x u v : ℕ)
-    → k < n → low ≤ 512 → Rows rs n items low → Reads items k 0 x → Reads items k 1 u → Reads items k 2 v
+    → k < n → low ≤ mostIdentifiers → Rows rs n items low → Reads items k 0 x → Reads items k 1 u → Reads items k 2 v
     → (subtreeOf s ≡ withMiddle (upFrom v u)) × ((m : ℕ) → u + v ≤ m → Within s m)
     → Joining goal (drop k (filled rs)) low r a w
-    → ((ns : List Node) (q : List ℕ) (t : Subtree) → Held ns (r .nodes) a → (r .nodes ≤ 512 → Listed q (r .waiting) w) → (length ns ≤ 512 → Chained s t (length ns)) → (length ns ≤ 512 → Treed ns) → Left (appendSubtree ns q x t) r′ a′ w′)
+    → ((ns : List Node) (q : List ℕ) (t : Subtree) → Held ns (r .nodes) a → (r .nodes ≤ mostIdentifiers → Listed q (r .waiting) w) → (length ns ≤ mostIdentifiers → Chained s t (length ns)) → (length ns ≤ mostIdentifiers → Treed ns) → Left (appendSubtree ns q x t) r′ a′ w′)
     → Joining goal (drop (k + 1) (filled rs)) low r′ a′ w′
 joining-next {goal} {low} {n} rs k s x u v h g t ex eu ev b c f =
     record {
@@ -251,7 +253,7 @@ joining-next {goal} {low} {n} rs k s x u v h g t ex eu ev b c f =
     ss : List Row
     ss = filled rs
 
-    low-k : k < 512
+    low-k : k < mostIdentifiers
     low-k = omega (arith, rows-count g t .1)
 
     qx : x ≡ getD ss k noRow .target
@@ -284,10 +286,10 @@ joining-end {goal} rs k h c =
     let q = c .so-far .waiting in
     left-as goal (sym (result-nil t q) ∙ ap (λ (l : List Row). appendLogicRuleResult t q (map itemFrom l)) (sym (drop-of-length-le rs h)) ∙ c .same) (c .here)
 
-pub joining-full : {ns : List Node} {len n : ℕ} {a w : List ℕ} (q : List ℕ) (is : List Targeted) → 512 < len → Held ns len a
+pub joining-full : {ns : List Node} {len n : ℕ} {a w : List ℕ} (q : List ℕ) (is : List Targeted) → mostIdentifiers < len → Held ns len a
     → Left (appendLogicRuleResult ns q is) (record { nodes = len; waiting = n }) a w
 joining-full {ns} q is h p = record { nodes = held-long (appendLogicRuleResult ns q is .nodes) p h (ext-result is ns q .longer); queue = λ i. absurd (omega arith) }
 
 -- the nodes of a table that is not full
-pub held-few : {ns : List Node} {len : ℕ} {a : List ℕ} → Held ns len a → len ≤ 512 → length ns ≤ 512
+pub held-few : {ns : List Node} {len : ℕ} {a : List ℕ} → Held ns len a → len ≤ mostIdentifiers → length ns ≤ mostIdentifiers
 held-few p h = omega (arith, held-ok p h .0)

@@ -4,6 +4,7 @@ use mathlib.Core.Path.{_≡_, refl, sym, ap, _∙_, subst}
 use mathlib.Core.List.{List, [], _∷_, _++_, map, reverse, append-assoc, map-append}
 use native.Mathlib.Omega.{arith}
 use lib.ListN.{length, length-append, length-map}
+use Rattle.definition.specs.Limits.{mostIdentifiers}
 use Rattle.arrays.specs.Listed.{Listed}
 use Rattle.definition.specs.Lists.{upFrom, Each}
 use Rattle.definition.specs.Tree.{Node, Place, Left, Middle, Right, newNode, linkChain}
@@ -31,7 +32,7 @@ size-of s =
 pub within-more : (s : ProofSubtree) {m n : ℕ} → m ≤ n → Within s m → Within s n
 within-more s h w = record { onLeft = omega (arith, w .onLeft); onMiddle = omega (arith, w .onMiddle); onRight = omega (arith, w .onRight) }
 
-pub within-fits : (s : ProofSubtree) {ns : List Node} {len : ℕ} {a : List ℕ} → len ≤ 512 → Held ns len a → Within s (length ns) → Within s 512
+pub within-fits : (s : ProofSubtree) {ns : List Node} {len : ℕ} {a : List ℕ} → len ≤ mostIdentifiers → Held ns len a → Within s (length ns) → Within s mostIdentifiers
 within-fits s h p w = within-more s (omega (arith, held-ok p h .0)) w
 
 pub within-hung : (s : ProofSubtree) (ns : List Node) (y : ℕ) (t : Subtree) → Within s (length ns) → Within s (length (appendSubtreeOnLeaf ns y t))
@@ -72,7 +73,7 @@ copied-all s ns p w f g h =
 
 -- ---- numbered anew
 -- a copy's chain, whose identifiers were drawn after n were issued
-module _ (ns : List Node) (c : Chain) {n : ℕ} {a b : List ℕ} (r : IssuedChain) (p : Held ns n a) (q : Held (more ns (chainOf c)) (r .len) b) (d : DrawnFrom n r) (small : r .len ≤ 512) where
+module _ (ns : List Node) (c : Chain) {n : ℕ} {a b : List ℕ} (r : IssuedChain) (p : Held ns n a) (q : Held (more ns (chainOf c)) (r .len) b) (d : DrawnFrom n r) (small : r .len ≤ mostIdentifiers) where
   copy-spans : Spans (r .chain) n (r .len)
   copy-spans = d small
 
@@ -110,9 +111,9 @@ attached s ns {n} l m r p w f g h =
       nodes = copied-all s ns p w (f .1) (g .1) (h .1);
       chains = λ small.
           let ends = h .0 small .ends in
-          let small-m : m .len ≤ 512 = omega (arith, ends, small) in
+          let small-m : m .len ≤ mostIdentifiers = omega (arith, ends, small) in
           let ends-m = g .0 small-m .ends in
-          let small-l : l .len ≤ 512 = omega (arith, ends-m, small-m) in
+          let small-l : l .len ≤ mostIdentifiers = omega (arith, ends-m, small-m) in
           let u = more ns (chainOf (s .left)) in
           let v = more u (chainOf (s .middle)) in
           let pl = f .1 ns p (w .onLeft) in
@@ -145,9 +146,9 @@ middle-only s start count l m r = rw (l, m, r) (refl, λ n h. record { onLeft = 
 
 -- ---- linked below a leaf
 abbrev Links : Chain → ℕ → ℕ → ℕ → List ℕ → List ℕ → Type 0
-Links c y code len a b = (ms : List Node) (p : Place) → placeCode p ≡ code → Held ms len a → (length ms ≤ 512 → Below c (length ms)) → Held (linkChain ms y p (chainOf c)) len b
+Links c y code len a b = (ms : List Node) (p : Place) → placeCode p ≡ code → Held ms len a → (length ms ≤ mostIdentifiers → Below c (length ms)) → Held (linkChain ms y p (chainOf c)) len b
 
-pub hung : (s : ProofSubtree) (ns : List Node) (y : ℕ) {len : ℕ} {a b c d : List ℕ} → Held ns len a → (length ns ≤ 512 → Within s (length ns))
+pub hung : (s : ProofSubtree) (ns : List Node) (y : ℕ) {len : ℕ} {a b c d : List ℕ} → Held ns len a → (length ns ≤ mostIdentifiers → Within s (length ns))
     → Links (s .left) y 1 len a b → Links (s .middle) y 2 len b c → Links (s .right) y 3 len c d → Held (appendSubtreeOnLeaf ns y (subtreeOf s)) len d
 unfolding appendSubtreeOnLeaf subtreeOf
 hung s ns y p w f g h =
@@ -163,8 +164,8 @@ hung s ns y p w f g h =
 abbrev Turned : Chain → Chain → Type 0
 Turned c d = (chainOf d ≡ reverse (chainOf c)) × (d .start .0 ≡ c .start .0) × (d .count ≡ c .count)
 
-pub pushed-turned : (c d : Chain) (q : List ℕ) {n n′ : ℕ} {a b : List ℕ} → Turned c d → Listed q n a → Below c 512
-    → ((l : List ℕ) → Listed l n a → Below d 512 → Listed (l ++ chainOf d) n′ b) → Listed (q ++ reverse (chainOf c)) n′ b
+pub pushed-turned : (c d : Chain) (q : List ℕ) {n n′ : ℕ} {a b : List ℕ} → Turned c d → Listed q n a → Below c mostIdentifiers
+    → ((l : List ℕ) → Listed l n a → Below d mostIdentifiers → Listed (l ++ chainOf d) n′ b) → Listed (q ++ reverse (chainOf c)) n′ b
 pushed-turned c d q {n} {n′} {a} {b} t p w f = subst (λ (l : List ℕ). Listed (q ++ l) n′ b) (t .0) (f q p (omega (arith, t .1, t .2)))
 
 pub pushed-all : (s : ProofSubtree) (q : List ℕ) {n : ℕ} {a : List ℕ} → Listed (((q ++ reverse (chainOf (s .left))) ++ reverse (chainOf (s .middle))) ++ reverse (chainOf (s .right))) n a

@@ -3,6 +3,7 @@ use Prim.Native.Nat.{ℕ, _≤_}
 use mathlib.Core.Path.{_≡_}
 use mathlib.Core.List.{List, _++_, map}
 use lib.ListN.{length}
+use Rattle.definition.specs.Limits.{mostIdentifiers}
 use Rattle.arrays.specs.Listed.{Listed}
 use Rattle.definition.specs.Tree.{Node}
 use Rattle.definition.specs.Subtree.{Subtree, Placed, flat, numbered, copied}
@@ -29,9 +30,9 @@ pub record Chained (s : ProofSubtree) (t : Subtree) (m : ℕ) : Type 0 where
 -- the table holds the nodes and the copies of those of s; where all fit, the answer has the copies' identifiers, "parent first"
 pub record Attached (ns : List Node) (s : ProofSubtree) (r : IssuedSubtree) (a : List ℕ) : Type 0 where
   pub nodes : Held (ns ++ map (copied ns) (flat (subtreeOf s))) (r .len) a
-  pub chains : r .len ≤ 512 → Chained (r .subtree) (numbered (length ns) (subtreeOf s)) (r .len)
+  pub chains : r .len ≤ mostIdentifiers → Chained (r .subtree) (numbered (length ns) (subtreeOf s)) (r .len)
 
 -- the table holds the nodes, and, where these fit, the queue holds the waiting nodes
 pub record Left (p : Placed) (r : Counts) (a w : List ℕ) : Type 0 where
   pub nodes : Held (p .nodes) (r .nodes) a
-  pub queue : r .nodes ≤ 512 → Listed (p .waiting) (r .waiting) w
+  pub queue : r .nodes ≤ mostIdentifiers → Listed (p .waiting) (r .waiting) w

@@ -2,6 +2,13 @@
 // Of a call whose arrays lay out nothing of the kind that its contract names: it ends and stays in bounds; its outcome is free.
 use arrays::nth;
 use arrays::push;
+use limits::FULL;
+use limits::ITEM_FIELDS;
+use limits::Items;
+use limits::MOST_IDENTIFIERS;
+use limits::Nodes;
+use limits::Numbers;
+use limits::Waiting;
 use tree::Chain;
 use tree::IssuedChain;
 use tree::ProofTreeNodeID;
@@ -16,6 +23,8 @@ ghost use mathlib.Core.Path.{_≡_};
 ghost use mathlib.Core.List.{List, [], _∷_, _++_, map, reverse};
 ghost use Prim.Native.Nat.{ℕ, _≤_, _<_, _+_, _*_};
 ghost use lib.ListN.{length, getD, drop};
+ghost use Rattle.definition.specs.Limits.{mostIdentifiers};
+ghost use Rattle.limits.specs.Arrays.{itemFields};
 ghost use Rattle.arrays.specs.Listed.{Listed};
 ghost use Rattle.definition.specs.Lists.{upFrom};
 ghost use Rattle.definition.specs.Tree.{Node};
@@ -78,7 +87,7 @@ fn size(s: ProofSubtree) -> usize
 }
 
 // A copy of each node of the chain, in its order: the chain of the copies.
-fn copy_chain(tree: &mut [u16; 4608], len: usize, c: Chain) -> IssuedChain
+fn copy_chain(tree: &mut Nodes, len: usize, c: Chain) -> IssuedChain
     ensures { λ r. ⌜ DrawnFrom len r × ((ns : List Node) → Held ns len (now (tree .entry)) → Below c (length ns) → Held (ns ++ map (copied ns) (chainOf c)) (r .len) (now (tree .exit))) ⌝ }
 {
     let n = c.count as usize;
@@ -105,7 +114,7 @@ struct IssuedSubtree {
 }
 
 // A copy of each node of the subtree, under identifiers drawn for it.
-fn attach_new_ids(tree: &mut [u16; 4608], len: usize, s: ProofSubtree) -> IssuedSubtree
+fn attach_new_ids(tree: &mut Nodes, len: usize, s: ProofSubtree) -> IssuedSubtree
     ensures { λ r. ⌜ ((ns : List Node) → Held ns len (now (tree .entry)) → Within s (length ns) → Attached ns s r (now (tree .exit))) ⌝ }
 {
     let l = s.left;
@@ -129,13 +138,8 @@ fn attach_new_ids(tree: &mut [u16; 4608], len: usize, s: ProofSubtree) -> Issued
 }
 
 // The subtree becomes what stands below the leaf.
-fn append_subtree_on_leaf(
-    tree: &mut [u16; 4608],
-    len: usize,
-    leaf: ProofTreeNodeID,
-    s: ProofSubtree,
-)
-    ensures { λ r. ⌜ ((ns : List Node) → Held ns len (now (tree .entry)) → (length ns ≤ 512 → Within s (length ns)) → Held (appendSubtreeOnLeaf ns (leaf .0) (subtreeOf s)) len (now (tree .exit))) ⌝ }
+fn append_subtree_on_leaf(tree: &mut Nodes, len: usize, leaf: ProofTreeNodeID, s: ProofSubtree)
+    ensures { λ r. ⌜ ((ns : List Node) → Held ns len (now (tree .entry)) → (length ns ≤ mostIdentifiers → Within s (length ns)) → Held (appendSubtreeOnLeaf ns (leaf .0) (subtreeOf s)) len (now (tree .exit))) ⌝ }
 {
     let l = s.left;
     let m = s.middle;
@@ -146,8 +150,8 @@ fn append_subtree_on_leaf(
 }
 
 // The chain's identifiers, top first, at the end of a list.
-fn push_chain(out: &mut [u16; 512], start: usize, c: Chain) -> usize
-    ensures { λ r. ⌜ ((q : List ℕ) → Listed q start (now (out .entry)) → Below c 512 → Listed (q ++ chainOf c) r (now (out .exit))) ⌝ }
+fn push_chain(out: &mut Numbers, start: usize, c: Chain) -> usize
+    ensures { λ r. ⌜ ((q : List ℕ) → Listed q start (now (out .entry)) → Below c mostIdentifiers → Listed (q ++ chainOf c) r (now (out .exit))) ⌝ }
 {
     let n = c.count as usize;
     let mut m = start;
@@ -161,8 +165,8 @@ fn push_chain(out: &mut [u16; 512], start: usize, c: Chain) -> usize
 }
 
 // The subtree's identifiers at the end of the queue, each chain from the bottom up.
-fn push_subtree(wait: &mut [u16; 512], n: usize, s: ProofSubtree) -> usize
-    ensures { λ r. ⌜ ((q : List ℕ) → Listed q n (now (wait .entry)) → Within s 512 → Listed (pushSubtree q (subtreeOf s)) r (now (wait .exit))) ⌝ }
+fn push_subtree(wait: &mut Waiting, n: usize, s: ProofSubtree) -> usize
+    ensures { λ r. ⌜ ((q : List ℕ) → Listed q n (now (wait .entry)) → Within s mostIdentifiers → Listed (pushSubtree q (subtreeOf s)) r (now (wait .exit))) ⌝ }
 {
     let l = s.left;
     let m = s.middle;
@@ -174,14 +178,14 @@ fn push_subtree(wait: &mut [u16; 512], n: usize, s: ProofSubtree) -> usize
 
 // A copy of the subtree below one leaf.
 fn append_copy(
-    tree: &mut [u16; 4608],
+    tree: &mut Nodes,
     len: usize,
     leaf: ProofTreeNodeID,
     s: ProofSubtree,
-    wait: &mut [u16; 512],
+    wait: &mut Waiting,
     n: usize,
 ) -> Counts
-    ensures { λ r. ⌜ ((ns : List Node) (q : List ℕ) → Held ns len (now (tree .entry)) → (len ≤ 512 → Listed q n (now (wait .entry))) → Within s (length ns)
+    ensures { λ r. ⌜ ((ns : List Node) (q : List ℕ) → Held ns len (now (tree .entry)) → (len ≤ mostIdentifiers → Listed q n (now (wait .entry))) → Within s (length ns)
         → Left (appendCopies ns q (leaf .0 ∷ []) (subtreeOf s)) r (now (tree .exit)) (now (wait .exit))) ⌝ }
 {
     let copied = attach_new_ids(tree, len, s);
@@ -196,17 +200,17 @@ fn append_copy(
 
 // A copy of the subtree below each of the leaves, from the given one on.
 fn append_copies(
-    tree: &mut [u16; 4608],
+    tree: &mut Nodes,
     len: usize,
-    leaves: &[u16; 512],
+    leaves: &Numbers,
     m: usize,
     from: usize,
     s: ProofSubtree,
-    wait: &mut [u16; 512],
+    wait: &mut Waiting,
     n: usize,
 ) -> Counts
-    ensures { λ r. ⌜ ((ns : List Node) (q ls : List ℕ) → Held ns len (now (tree .entry)) → (len ≤ 512 → Listed q n (now (wait .entry))) → Within s (length ns)
-        → Listed ls m (now (leaves .entry)) → m ≤ 512 → Left (appendCopies ns q (drop from ls) (subtreeOf s)) r (now (tree .exit)) (now (wait .exit))) ⌝ }
+    ensures { λ r. ⌜ ((ns : List Node) (q ls : List ℕ) → Held ns len (now (tree .entry)) → (len ≤ mostIdentifiers → Listed q n (now (wait .entry))) → Within s (length ns)
+        → Listed ls m (now (leaves .entry)) → m ≤ mostIdentifiers → Left (appendCopies ns q (drop from ls) (subtreeOf s)) r (now (tree .exit)) (now (wait .exit))) ⌝ }
 {
     let mut here = Counts {
         nodes: len,
@@ -223,16 +227,16 @@ fn append_copies(
 
 // Below the first of the leaves the subtree, below each further one a copy.
 fn append_on(
-    tree: &mut [u16; 4608],
+    tree: &mut Nodes,
     len: usize,
-    leaves: &[u16; 512],
+    leaves: &Numbers,
     m: usize,
     s: ProofSubtree,
-    wait: &mut [u16; 512],
+    wait: &mut Waiting,
     n: usize,
 ) -> Counts
-    ensures { λ r. ⌜ ((ns : List Node) (q ls : List ℕ) → Held ns len (now (tree .entry)) → (len ≤ 512 → Listed q n (now (wait .entry))) → Within s (length ns)
-        → Listed ls m (now (leaves .entry)) → m ≤ 512 → Left (appendOn ns q ls (subtreeOf s)) r (now (tree .exit)) (now (wait .exit))) ⌝ }
+    ensures { λ r. ⌜ ((ns : List Node) (q ls : List ℕ) → Held ns len (now (tree .entry)) → (len ≤ mostIdentifiers → Listed q n (now (wait .entry))) → Within s (length ns)
+        → Listed ls m (now (leaves .entry)) → m ≤ mostIdentifiers → Left (appendOn ns q ls (subtreeOf s)) r (now (tree .exit)) (now (wait .exit))) ⌝ }
 {
     let w = push_subtree(wait, n, s);
     if m == 0 {
@@ -248,31 +252,31 @@ fn append_on(
 
 // The subtree, below each leaf whose path holds the target and has no contradictory node. More than 512 nodes: full.
 pub fn append_subtree(
-    tree: &mut [u16; 4608],
+    tree: &mut Nodes,
     len: usize,
     target: ProofTreeNodeID,
     s: ProofSubtree,
-    wait: &mut [u16; 512],
+    wait: &mut Waiting,
     n: usize,
 ) -> Counts
-    ensures { λ r. ⌜ ((ns : List Node) (q : List ℕ) (t : Subtree) → Held ns len (now (tree .entry)) → (len ≤ 512 → Listed q n (now (wait .entry))) → (length ns ≤ 512 → Chained s t (length ns))
-        → (length ns ≤ 512 → Treed ns) → Left (appendSubtree ns q (target .0) t) r (now (tree .exit)) (now (wait .exit))) ⌝ }
+    ensures { λ r. ⌜ ((ns : List Node) (q : List ℕ) (t : Subtree) → Held ns len (now (tree .entry)) → (len ≤ mostIdentifiers → Listed q n (now (wait .entry))) → (length ns ≤ mostIdentifiers → Chained s t (length ns))
+        → (length ns ≤ mostIdentifiers → Treed ns) → Left (appendSubtree ns q (target .0) t) r (now (tree .exit)) (now (wait .exit))) ⌝ }
 {
     let as_it_was = Counts {
         nodes: len,
         waiting: n,
     };
-    if 512 < len {
+    if MOST_IDENTIFIERS < len {
         return as_it_was;
     }
     if size(s) == 0 {
         return as_it_was;
     }
-    let mut found = [0u16; 512];
+    let mut found = [0u16; MOST_IDENTIFIERS];
     let m = takers(tree, len, target, &mut found);
-    if 512 < m {
+    if MOST_IDENTIFIERS < m {
         return Counts {
-            nodes: 513,
+            nodes: FULL,
             waiting: n,
         };
     }
@@ -280,54 +284,54 @@ pub fn append_subtree(
 }
 
 // Number j of row k of the table of subtrees.
-fn item_field(items: &[u16; 1536], k: usize, j: usize) -> u16
-    ensures { λ r. ⌜ (k < 512 → j < 3 → r ≡ getD (now (items .entry)) (k * 3 + j) 0) ⌝ }
+fn item_field(items: &Items, k: usize, j: usize) -> u16
+    ensures { λ r. ⌜ (k < mostIdentifiers → j < itemFields → r ≡ getD (now (items .entry)) (k * itemFields + j) 0) ⌝ }
 {
-    if 512 <= k {
+    if MOST_IDENTIFIERS <= k {
         return 0;
     }
-    if 3 <= j {
+    if ITEM_FIELDS <= j {
         return 0;
     }
-    items[k * 3 + j]
+    items[k * ITEM_FIELDS + j]
 }
 
 // One subtree more: a middle chain of identifiers above all that are there. None: nothing is stored. 513 where there is no room.
-pub fn push_item(items: &mut [u16; 1536], count: usize, target: ProofTreeNodeID, c: Chain) -> usize
+pub fn push_item(items: &mut Items, count: usize, target: ProofTreeNodeID, c: Chain) -> usize
     ensures { λ r. ⌜ ((rs : List Row) (lo hi : ℕ) → Rows rs count (now (items .entry)) lo → Spans c lo hi
         → Rows (rs ++ (record { target = target .0; start = lo; count = c .count } ∷ [])) r (now (items .exit)) hi) ⌝ }
 {
     if c.count == 0 {
         return count;
     }
-    if 512 <= count {
-        return 513;
+    if MOST_IDENTIFIERS <= count {
+        return FULL;
     }
     let start = c.start;
-    items[count * 3] = target.0;
-    items[count * 3 + 1] = start.0;
-    items[count * 3 + 2] = c.count;
+    items[count * ITEM_FIELDS] = target.0;
+    items[count * ITEM_FIELDS + 1] = start.0;
+    items[count * ITEM_FIELDS + 2] = c.count;
     count + 1
 }
 
 // The subtrees of a joined result, placed and queued one after the other.
 pub fn append_logic_rule_result(
-    tree: &mut [u16; 4608],
+    tree: &mut Nodes,
     len: usize,
-    items: &[u16; 1536],
+    items: &Items,
     count: usize,
-    wait: &mut [u16; 512],
+    wait: &mut Waiting,
     n: usize,
 ) -> Counts
-    ensures { λ r. ⌜ ((ns : List Node) (q : List ℕ) (rs : List Row) → Held ns len (now (tree .entry)) → (len ≤ 512 → Listed q n (now (wait .entry)))
-        → (len ≤ 512 → Rows rs count (now (items .entry)) (length ns)) → Steady ns q (map itemFrom rs)
+    ensures { λ r. ⌜ ((ns : List Node) (q : List ℕ) (rs : List Row) → Held ns len (now (tree .entry)) → (len ≤ mostIdentifiers → Listed q n (now (wait .entry)))
+        → (len ≤ mostIdentifiers → Rows rs count (now (items .entry)) (length ns)) → Steady ns q (map itemFrom rs)
         → Left (appendLogicRuleResult ns q (map itemFrom rs)) r (now (tree .exit)) (now (wait .exit))) ⌝ }
 {
     let mut here = Counts {
         nodes: len,
         waiting: n,
     };
-    if 512 < len {
+    if MOST_IDENTIFIERS < len {
         return here;
     }
     let mut k: usize = 0;

@@ -9,6 +9,7 @@ use native.Mathlib.Numerals.{add-one}
 use native.Mathlib.Decide.{decLe}
 use lib.ListN.{length, getD, drop, length-reverse, drop-of-length-le}
 use lib.Seq.{drop-cons}
+use Rattle.definition.specs.Limits.{mostIdentifiers}
 use Rattle.definition.specs.Lists.{upFrom}
 use Rattle.definition.specs.Tree.{Node, Place, Middle, link, linkChain}
 use Rattle.definition.proofs.Lists.{from-get}
@@ -52,7 +53,7 @@ module _ (c : Chain) where
   chain-down k e h = rw e (sym (down-get (c .count) (c .start .0) k [] h))
 
 -- within a chain that fits
-pub inside : (c : Chain) (k : ℕ) {A : Type 0} → k < c .count → c .start .0 + c .count ≤ 512 → (c .count ≤ k) ⊎ (512 < c .start .0 + c .count) → A
+pub inside : (c : Chain) (k : ℕ) {A : Type 0} → k < c .count → c .start .0 + c .count ≤ mostIdentifiers → (c .count ≤ k) ⊎ (mostIdentifiers < c .start .0 + c .count) → A
 inside c k h g (inl e) = absurd (omega (arith, h, e))
 inside c k h g (inr e) = absurd (omega (arith, g, e))
 
@@ -85,7 +86,7 @@ drawn-none n h = record { rises = refl; ends = omega arith; low = omega arith; b
 
 -- the chain d of `here` and the identifier drawn after it
 pub drawn-more : {here : IssuedChain} {x : Issued} {lo : ℕ} (d : Chain) → Draws (here .len) x → DrawnFrom lo here
-    → ((k : ℕ) → x .id .0 < 512 → Spans (here .chain) k (x .id .0) → Spans d k (x .id .0 + 1)) → DrawnFrom lo (record { chain = d; len = x .len })
+    → ((k : ℕ) → x .id .0 < mostIdentifiers → Spans (here .chain) k (x .id .0) → Spans d k (x .id .0 + 1)) → DrawnFrom lo (record { chain = d; len = x .len })
 drawn-more {here} {x} {lo} d draws before extends small =
     let n = drawn-next draws small in
     subst (Spans d lo) (ap (λ (k : ℕ). k + 1) (n .id) ∙ sym (n .count))
@@ -139,8 +140,8 @@ module _ {goal : List Node} {len : ℕ} {a : List ℕ} {above at : ℕ} (c : Cha
       (l .has)
 
 -- a chain of nodes that fit
-pub below-fits : {ns : List Node} {len : ℕ} {a : List ℕ} (c : Chain) → len ≤ 512 → Held ns len a → (length ns ≤ 512 → Below c (length ns)) → Below c 512
+pub below-fits : {ns : List Node} {len : ℕ} {a : List ℕ} (c : Chain) → len ≤ mostIdentifiers → Held ns len a → (length ns ≤ mostIdentifiers → Below c (length ns)) → Below c mostIdentifiers
 below-fits c h p b = let e = held-ok p h .0 in omega (arith, e, b (omega (arith, e, h)))
 
-pub chain-full : {ns : List Node} {len : ℕ} {a : List ℕ} (y : ℕ) (p : Place) (xs : List ℕ) → 512 < len → Held ns len a → Held (linkChain ns y p xs) len a
+pub chain-full : {ns : List Node} {len : ℕ} {a : List ℕ} (y : ℕ) (p : Place) (xs : List ℕ) → mostIdentifiers < len → Held ns len a → Held (linkChain ns y p xs) len a
 chain-full {ns} y p xs h q = held-long (linkChain ns y p xs) q h (omega (arith, length-chain ns y p xs))

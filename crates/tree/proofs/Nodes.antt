@@ -1,5 +1,5 @@
 -- What each function reads or does of the nodes that the table holds.
-use Prim.Native.Nat.{ℕ, _+_, _*_, _<_, _≤_}
+use Prim.Native.Nat.{ℕ, suc, _+_, _*_, _<_, _≤_}
 use mathlib.Core.Path.{_≡_, refl, sym, ap, _∙_, subst}
 use mathlib.Core.Bool.{Bool, true, false, cond, not}
 use mathlib.Core.List.{List, [], _∷_, _++_, append-nil}
@@ -8,6 +8,8 @@ use native.Mathlib.Decide.{decLe}
 use lib.ListN.{length, set, replicate, length-append}
 use lib.Seq.{set-out, set-set, set-getD, getD-set-same, set-at, getD-at}
 use borrow.Author.Tests.{le-leb, lt-leb}
+use Rattle.definition.specs.Limits.{mostIdentifiers}
+use Rattle.limits.specs.Arrays.{nodeFields, nodeCells}
 use Rattle.definition.specs.Records.{nobody, isNobody}
 use Rattle.definition.specs.Tree.{Node, Children, Place, Root, Left, Middle, Right, Unplaced, nodeAt, newNode, setChild, change, placedBelow, withChild, isContradictory, link, isLeaf}
 use Rattle.definition.proofs.Nodes.{blank, length-change}
@@ -38,27 +40,27 @@ unfolding isContradictory
 marked n {x} k e h = rw (h, e) refl
 
 -- ---- the table
-pub held-ok : {ns : List Node} {len : ℕ} {a : List ℕ} → Held ns len a → len ≤ 512 → (length ns ≡ len) × (a ≡ lay ns)
+pub held-ok : {ns : List Node} {len : ℕ} {a : List ℕ} → Held ns len a → len ≤ mostIdentifiers → (length ns ≡ len) × (a ≡ lay ns)
 held-ok (held b e q) h = (e, q)
 held-ok (tooMany b e) h = absurd (omega arith)
 
-pub held-fits : {ns : List Node} {len : ℕ} {a : List ℕ} → Held ns len a → length ns ≤ 512 → len ≤ 512
+pub held-fits : {ns : List Node} {len : ℕ} {a : List ℕ} → Held ns len a → length ns ≤ mostIdentifiers → len ≤ mostIdentifiers
 held-fits (held b e q) h = b
 held-fits (tooMany b e) h = absurd (omega arith)
 
 -- other nodes, as many, that lie alike
-pub held-same : {ns : List Node} {len : ℕ} {a : List ℕ} (ms : List Node) → Held ns len a → length ns ≡ length ms → (len ≤ 512 → lay ns ≡ lay ms) → Held ms len a
+pub held-same : {ns : List Node} {len : ℕ} {a : List ℕ} (ms : List Node) → Held ns len a → length ns ≡ length ms → (len ≤ mostIdentifiers → lay ns ≡ lay ms) → Held ms len a
 held-same ms (held b e q) l f = held b (sym l ∙ e) (q ∙ f b)
 held-same ms (tooMany b e) l f = tooMany b (omega arith)
 
-pub held-long : {ns : List Node} {len : ℕ} {a b : List ℕ} (ms : List Node) → Held ns len a → 512 < len → length ns ≤ length ms → Held ms len b
+pub held-long : {ns : List Node} {len : ℕ} {a b : List ℕ} (ms : List Node) → Held ns len a → mostIdentifiers < len → length ns ≤ length ms → Held ms len b
 held-long ms (held b e q) h l = absurd (omega arith)
 held-long ms (tooMany b e) h l = tooMany b (omega arith)
 
 pub held-as : {ns : List Node} {len : ℕ} {a : List ℕ} (ms : List Node) → ns ≡ ms → Held ns len a → Held ms len a
 held-as {ns} {len} {a} ms e p = subst (λ (l : List Node). Held l len a) e p
 
-pub held-none : Held [] 0 (replicate 4608 nobody)
+pub held-none : Held [] 0 (replicate nodeCells nobody)
 unfolding lay
 held-none = held (omega arith) refl refl
 
@@ -67,23 +69,23 @@ change-out : (ns : List Node) (x : ℕ) (f : Node → Node) → length ns ≤ x 
 change-out ns x f h = set-out ns x (f (nodeAt ns x)) h
 
 module _ {ns : List Node} {len : ℕ} {a : List ℕ} (x : ℕ) (f : Node → Node) (p : Held ns len a) where
-  pub put-full : 512 < len → Held (change ns x f) len a
+  pub put-full : mostIdentifiers < len → Held (change ns x f) len a
   put-full h = held-long (change ns x f) p h (omega (arith, length-change ns x f))
 
-  pub put-out : len ≤ 512 → len ≤ x → Held (change ns x f) len a
+  pub put-out : len ≤ mostIdentifiers → len ≤ x → Held (change ns x f) len a
   put-out h g = held-same (change ns x f) p (sym (length-change ns x f)) (λ b. ap lay (sym (change-out ns x f (omega (arith, held-ok p h .0)))))
 
   module _ (j v : ℕ) (r : (n : Node) → row (f n) ≡ set (row n) j v) where
-    pub put-none : 9 ≤ j → Held (change ns x f) len a
+    pub put-none : nodeFields ≤ j → Held (change ns x f) len a
     put-none h =
         held-same (change ns x f) p (sym (length-change ns x f))
         (λ b. lay-same ns x (f (nodeAt ns x)) (r (nodeAt ns x) ∙ set-out (row (nodeAt ns x)) j v h))
 
-    pub put-store : len ≤ 512 → x < len → j < 9 → Held (change ns x f) len (set a (x * 9 + j) v)
+    pub put-store : len ≤ mostIdentifiers → x < len → j < nodeFields → Held (change ns x f) len (set a (x * nodeFields + j) v)
     put-store h g b =
         let q = held-ok p h in
         held h (length-change ns x f ∙ q .0)
-        (ap (λ (l : List ℕ). set l (x * 9 + j) v) (q .1) ∙ lay-set ns x (f (nodeAt ns x)) j v (omega (arith, q .0)) b (r (nodeAt ns x)))
+        (ap (λ (l : List ℕ). set l (x * nodeFields + j) v) (q .1) ∙ lay-set ns x (f (nodeAt ns x)) j v (omega (arith, q .0)) b (r (nodeAt ns x)))
 
 -- several changes of one node
 abbrev changes : List Node → ℕ → List (Node → Node) → List Node
@@ -138,11 +140,11 @@ abbrev pub Puts : ℕ → List ℕ → List ℕ → ℕ → ℕ → ℕ → Type
 Puts len a b x j v = (ns : List Node) (f : Node → Node) → ((n : Node) → row (f n) ≡ set (row n) j v) → Held ns len a → Held (change ns x f) len b
 
 -- ---- a new node
-new-over : {ns : List Node} {len : ℕ} {a b : List ℕ} (n : Node) → 512 ≤ len → Held ns len a → Held (ns ++ (n ∷ [])) 513 b
+new-over : {ns : List Node} {len : ℕ} {a b : List ℕ} (n : Node) → mostIdentifiers ≤ len → Held ns len a → Held (ns ++ (n ∷ [])) (suc mostIdentifiers) b
 new-over {ns} n h (held b e q) = tooMany (omega arith) (omega (arith, length-append ns (n ∷ [])))
 new-over {ns} n h (tooMany b e) = tooMany (omega arith) (omega (arith, length-append ns (n ∷ [])))
 
-new-filled : (ns : List Node) {len m : ℕ} {a b c d : List ℕ} (s f w : ℕ) → m ≡ len + 1 → len < 512 → Puts m a b len 2 w → Puts m b c len 3 f → Puts m c d len 4 s →
+new-filled : (ns : List Node) {len m : ℕ} {a b c d : List ℕ} (s f w : ℕ) → m ≡ len + 1 → len < mostIdentifiers → Puts m a b len 2 w → Puts m b c len 3 f → Puts m c d len 4 s →
     Held ns len a → Held (ns ++ (newNode s f w ∷ [])) m d
 new-filled ns {len} {m} {a} s f w z h g2 g3 g4 (held i e q) =
     let more = ns ++ (blank ∷ []) in
@@ -157,10 +159,10 @@ new-filled ns s f w z h g2 g3 g4 (tooMany i e) = absurd (omega arith)
 -- with the identifier that is drawn, where there is room and where there is none
 pub new-drawn : (ns : List Node) {len m x : ℕ} {a b c d : List ℕ} (s f w : ℕ) → x ≡ idAt len → m ≡ countAfter len → Puts m a b x 2 w → Puts m b c x 3 f → Puts m c d x 4 s →
     Held ns len a → Held (ns ++ (newNode s f w ∷ [])) m d
-new-drawn ns {len} {m} {x} {a} {b} {c} {d} s f w i e g2 g3 g4 p = elim (decLe 512 len) [
-  | yes h ↦ subst (λ (k : ℕ). Held (ns ++ (newNode s f w ∷ [])) k d) (count-full len (sym (le-leb 512 len h)) refl ∙ sym e) (new-over (newNode s f w) h p)
+new-drawn ns {len} {m} {x} {a} {b} {c} {d} s f w i e g2 g3 g4 p = elim (decLe mostIdentifiers len) [
+  | yes h ↦ subst (λ (k : ℕ). Held (ns ++ (newNode s f w ∷ [])) k d) (count-full len (sym (le-leb mostIdentifiers len h)) refl ∙ sym e) (new-over (newNode s f w) h p)
   | no h ↦
-      let room = sym (lt-leb 512 len (omega arith)) in
+      let room = sym (lt-leb mostIdentifiers len (omega arith)) in
       let at : x ≡ len = i ∙ sym (id-next len room refl) in
       new-filled ns s f w (e ∙ sym (count-more len room refl)) (omega arith) (subst (λ (k : ℕ). Puts m a b k 2 w) at g2) (subst (λ (k : ℕ). Puts m b c k 3 f) at g3) (subst (λ (k : ℕ). Puts m c d k 4 s) at g4) p
 ]

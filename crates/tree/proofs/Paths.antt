@@ -7,6 +7,7 @@ use native.Mathlib.Omega.{arith}
 use native.Mathlib.Numerals.{sub-one}
 use borrow.Author.Tests.{eqb-true}
 use lib.ListN.{length, List·getD-eq-default}
+use Rattle.definition.specs.Limits.{mostIdentifiers}
 use Rattle.arrays.specs.Listed.{Listed}
 use Rattle.definition.specs.Lists.{any, filter}
 use Rattle.definition.specs.Records.{nobody, isNobody}
@@ -84,14 +85,14 @@ unfolding isLeaf
 leaf-as c l m r el em er w = sym (w ∙ rw (el, em, er) refl)
 
 -- nobody has no child
-pub nobody-leaf : (t : List Node) (x : ℕ) → length t ≤ 512 → isNobody x ≡ true → isLeaf (nodeAt t x .children) ≡ true
+pub nobody-leaf : (t : List Node) (x : ℕ) → length t ≤ mostIdentifiers → isNobody x ≡ true → isLeaf (nodeAt t x .children) ≡ true
 unfolding isLeaf
 nobody-leaf t x h e =
     let q = eqb-true x nobody e in
     ap (λ (n : Node). isLeaf (n .children)) (List·getD-eq-default t (newNode nobody nobody nobody) {n = x} (omega (arith, q)))
 
 module _ (t : List Node) (d x : ℕ) (k : List ℕ) {n : ℕ} {a : List ℕ} {b : Bool} (e : b ≡ isNobody x) where
-  pub walk-none : length t ≤ 512 → b ≡ true → Listed k n a → Listed (k ++ leavesBelow d t x) n a
+  pub walk-none : length t ≤ mostIdentifiers → b ≡ true → Listed k n a → Listed (k ++ leavesBelow d t x) n a
   unfolding leavesBelow only
   walk-none h q = listed-more k (leavesBelow d t x) (go d)
     where

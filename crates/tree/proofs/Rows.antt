@@ -5,6 +5,8 @@ use mathlib.Core.List.{List, [], _∷_, _++_}
 use native.Mathlib.Omega.{arith}
 use lib.ListN.{length, getD, set, replicate, length-append, length-set, length-replicate, replicate-append-replicate, List·getD-append, List·getD-eq-default}
 use lib.Seq.{getD-append-add, set-append-left}
+use Rattle.definition.specs.Limits.{mostIdentifiers}
+use Rattle.limits.specs.Arrays.{nodeFields, nodeCells}
 use Rattle.definition.specs.Lists.{concatMap}
 use Rattle.definition.specs.Records.{nobody}
 use Rattle.definition.specs.Tree.{Node, nodeAt}
@@ -14,11 +16,11 @@ use Rattle.tree.specs.Lay.{row, lay}
 abbrev rows : List Node → List ℕ
 rows ns = concatMap row ns
 
-rows-length : (ns : List Node) → length (rows ns) ≡ length ns * 9
+rows-length : (ns : List Node) → length (rows ns) ≡ length ns * nodeFields
 rows-length [] = refl
 rows-length (n ∷ ns) = omega (arith, rows-length ns)
 
-pub lay-length : (ns : List Node) → length ns ≤ 512 → length (lay ns) ≡ 4608
+pub lay-length : (ns : List Node) → length ns ≤ mostIdentifiers → length (lay ns) ≡ nodeCells
 unfolding lay
 lay-length ns h = simp (length-append, rows-length, length-replicate) (omega arith)
 
@@ -34,14 +36,14 @@ then-nobodies [] k i = nobodies k i
 then-nobodies (x ∷ l) k zero = refl
 then-nobodies (x ∷ l) k (suc i) = then-nobodies l k i
 
-rows-read : (ns : List Node) (i j : ℕ) → j < 9 → getD (rows ns) (i * 9 + j) nobody ≡ getD (row (nodeAt ns i)) j nobody
-rows-read [] i j h = sym (nobodies 9 j)
+rows-read : (ns : List Node) (i j : ℕ) → j < nodeFields → getD (rows ns) (i * nodeFields + j) nobody ≡ getD (row (nodeAt ns i)) j nobody
+rows-read [] i j h = sym (nobodies nodeFields j)
 rows-read (n ∷ ns) zero j h =
-    let z : 0 * 9 + j ≡ j = omega arith in
+    let z : 0 * nodeFields + j ≡ j = omega arith in
     ap (λ (k : ℕ). getD (rows (n ∷ ns)) k nobody) z ∙ List·getD-append (row n) (rows ns) nobody j h
 rows-read (n ∷ ns) (suc i) j h =
-    let z : suc i * 9 + j ≡ 9 + (i * 9 + j) = omega arith in
-    ap (λ (k : ℕ). getD (rows (n ∷ ns)) k nobody) z ∙ getD-append-add (row n) (rows ns) (i * 9 + j) nobody ∙ rows-read ns i j h
+    let z : suc i * nodeFields + j ≡ nodeFields + (i * nodeFields + j) = omega arith in
+    ap (λ (k : ℕ). getD (rows (n ∷ ns)) k nobody) z ∙ getD-append-add (row n) (rows ns) (i * nodeFields + j) nobody ∙ rows-read ns i j h
 
 -- within a list it does not matter what would be read beyond it
 getD-within : (l : List ℕ) (i d e : ℕ) → i < length l → getD l i d ≡ getD l i e
@@ -49,19 +51,19 @@ getD-within [] i d e h = absurd (omega arith)
 getD-within (x ∷ l) zero d e h = refl
 getD-within (x ∷ l) (suc i) d e h = getD-within l i d e (omega arith)
 
-pub read-at : (ns : List Node) {a : List ℕ} (i j : ℕ) → length ns ≤ 512 → a ≡ lay ns → i < 512 → j < 9 → getD a (i * 9 + j) 0 ≡ getD (row (nodeAt ns i)) j nobody
+pub read-at : (ns : List Node) {a : List ℕ} (i j : ℕ) → length ns ≤ mostIdentifiers → a ≡ lay ns → i < mostIdentifiers → j < nodeFields → getD a (i * nodeFields + j) 0 ≡ getD (row (nodeAt ns i)) j nobody
 unfolding lay
 read-at ns {a} i j h q g b =
-    getD-within a (i * 9 + j) 0 nobody (omega (arith, ap length q ∙ lay-length ns h))
-    ∙ ap (λ (l : List ℕ). getD l (i * 9 + j) nobody) q
-    ∙ then-nobodies (rows ns) ((512 - length ns) * 9) (i * 9 + j)
+    getD-within a (i * nodeFields + j) 0 nobody (omega (arith, ap length q ∙ lay-length ns h))
+    ∙ ap (λ (l : List ℕ). getD l (i * nodeFields + j) nobody) q
+    ∙ then-nobodies (rows ns) ((mostIdentifiers - length ns) * nodeFields) (i * nodeFields + j)
     ∙ rows-read ns i j b
 
-pub read-row-out : (ns : List Node) (i j : ℕ) → length ns ≤ 512 → 512 ≤ i → nobody ≡ getD (row (nodeAt ns i)) j nobody
+pub read-row-out : (ns : List Node) (i j : ℕ) → length ns ≤ mostIdentifiers → mostIdentifiers ≤ i → nobody ≡ getD (row (nodeAt ns i)) j nobody
 read-row-out ns i j h g =
-    sym (nobodies 9 j) ∙ ap (λ (n : Node). getD (row n) j nobody) (sym (List·getD-eq-default ns blank (omega arith)))
+    sym (nobodies nodeFields j) ∙ ap (λ (n : Node). getD (row n) j nobody) (sym (List·getD-eq-default ns blank (omega arith)))
 
-pub read-out : (n : Node) (j : ℕ) → 9 ≤ j → nobody ≡ getD (row n) j nobody
+pub read-out : (n : Node) (j : ℕ) → nodeFields ≤ j → nobody ≡ getD (row n) j nobody
 read-out n j h = sym (List·getD-eq-default (row n) nobody h)
 
 -- ---- stores
@@ -71,18 +73,18 @@ set-append-add (x ∷ xs) ys i v =
     let z : length (x ∷ xs) + i ≡ suc (length xs + i) = omega arith in
     ap (λ (k : ℕ). set (x ∷ (xs ++ ys)) k v) z ∙ ap (λ (l : List ℕ). x ∷ l) (set-append-add xs ys i v)
 
-rows-set : (ns : List Node) (rest : List ℕ) (i j v : ℕ) (m : Node) → i < length ns → j < 9 → row m ≡ set (row (nodeAt ns i)) j v →
-    set (rows ns ++ rest) (i * 9 + j) v ≡ rows (set ns i m) ++ rest
+rows-set : (ns : List Node) (rest : List ℕ) (i j v : ℕ) (m : Node) → i < length ns → j < nodeFields → row m ≡ set (row (nodeAt ns i)) j v →
+    set (rows ns ++ rest) (i * nodeFields + j) v ≡ rows (set ns i m) ++ rest
 rows-set [] rest i j v m h g e = absurd (omega arith)
 rows-set (n ∷ ns) rest zero j v m h g e =
-    let z : 0 * 9 + j ≡ j = omega arith in
+    let z : 0 * nodeFields + j ≡ j = omega arith in
     ap (λ (k : ℕ). set (rows (n ∷ ns) ++ rest) k v) z
     ∙ set-append-left (row n) (rows ns ++ rest) j v g
     ∙ ap (λ (l : List ℕ). l ++ (rows ns ++ rest)) (sym e)
 rows-set (n ∷ ns) rest (suc i) j v m h g e =
-    let z : suc i * 9 + j ≡ 9 + (i * 9 + j) = omega arith in
+    let z : suc i * nodeFields + j ≡ nodeFields + (i * nodeFields + j) = omega arith in
     ap (λ (k : ℕ). set (rows (n ∷ ns) ++ rest) k v) z
-    ∙ set-append-add (row n) (rows ns ++ rest) (i * 9 + j) v
+    ∙ set-append-add (row n) (rows ns ++ rest) (i * nodeFields + j) v
     ∙ ap (λ (l : List ℕ). row n ++ l) (rows-set ns rest i j v m (omega arith) g e)
 
 rows-same : (ns : List Node) (i : ℕ) (m : Node) → row m ≡ row (nodeAt ns i) → rows (set ns i m) ≡ rows ns
@@ -91,20 +93,20 @@ rows-same (n ∷ ns) zero m e = ap (λ (l : List ℕ). l ++ rows ns) e
 rows-same (n ∷ ns) (suc i) m e = ap (λ (l : List ℕ). row n ++ l) (rows-same ns i m e)
 
 module _ (ns : List Node) (i : ℕ) (m : Node) where
-  length-same : (512 - length (set ns i m)) * 9 ≡ (512 - length ns) * 9
-  length-same = ap (λ (k : ℕ). (512 - k) * 9) (length-set ns i m)
+  length-same : (mostIdentifiers - length (set ns i m)) * nodeFields ≡ (mostIdentifiers - length ns) * nodeFields
+  length-same = ap (λ (k : ℕ). (mostIdentifiers - k) * nodeFields) (length-set ns i m)
 
-  pub lay-set : (j v : ℕ) → i < length ns → j < 9 → row m ≡ set (row (nodeAt ns i)) j v → set (lay ns) (i * 9 + j) v ≡ lay (set ns i m)
+  pub lay-set : (j v : ℕ) → i < length ns → j < nodeFields → row m ≡ set (row (nodeAt ns i)) j v → set (lay ns) (i * nodeFields + j) v ≡ lay (set ns i m)
   unfolding lay
   lay-set j v h g e =
-      rows-set ns (replicate ((512 - length ns) * 9) nobody) i j v m h g e
+      rows-set ns (replicate ((mostIdentifiers - length ns) * nodeFields) nobody) i j v m h g e
       ∙ ap (λ (k : ℕ). rows (set ns i m) ++ replicate k nobody) (sym length-same)
 
   -- a node with the same row
   pub lay-same : row m ≡ row (nodeAt ns i) → lay ns ≡ lay (set ns i m)
   unfolding lay
   lay-same e =
-      ap (λ (l : List ℕ). l ++ replicate ((512 - length ns) * 9) nobody) (sym (rows-same ns i m e))
+      ap (λ (l : List ℕ). l ++ replicate ((mostIdentifiers - length ns) * nodeFields) nobody) (sym (rows-same ns i m e))
       ∙ ap (λ (k : ℕ). rows (set ns i m) ++ replicate k nobody) (sym length-same)
 
 -- ---- a row more
@@ -113,11 +115,11 @@ rows-snoc [] n rest = refl
 rows-snoc (m ∷ ns) n rest = ap (λ (l : List ℕ). row m ++ l) (rows-snoc ns n rest)
 
 -- the row of a number that has no node is there already
-pub lay-blank : (ns : List Node) → length ns < 512 → lay ns ≡ lay (ns ++ (blank ∷ []))
+pub lay-blank : (ns : List Node) → length ns < mostIdentifiers → lay ns ≡ lay (ns ++ (blank ∷ []))
 unfolding lay
 lay-blank ns h =
-    let k = (512 - length (ns ++ (blank ∷ []))) * 9 in
-    let e : (512 - length ns) * 9 ≡ 9 + k = omega (arith, length-append ns (blank ∷ [])) in
+    let k = (mostIdentifiers - length (ns ++ (blank ∷ []))) * nodeFields in
+    let e : (mostIdentifiers - length ns) * nodeFields ≡ nodeFields + k = omega (arith, length-append ns (blank ∷ [])) in
     ap (λ (j : ℕ). rows ns ++ replicate j nobody) e
-    ∙ ap (λ (l : List ℕ). rows ns ++ l) (sym (replicate-append-replicate 9 k nobody))
+    ∙ ap (λ (l : List ℕ). rows ns ++ l) (sym (replicate-append-replicate nodeFields k nobody))
     ∙ sym (rows-snoc ns blank (replicate k nobody))

@@ -1,18 +1,19 @@
 -- The sequence of identifiers, with room and without.
-use Prim.Native.Nat.{ℕ, _+_, _<_, _≤_}
+use Prim.Native.Nat.{ℕ, suc, _+_, _<_, _≤_}
 use mathlib.Core.Path.{_≡_, refl, sym, _∙_}
 use mathlib.Core.Bool.{Bool, true, false}
 use lib.Dec.{leb}
 use native.Mathlib.Omega.{arith}
 use native.Mathlib.Decide.{decLe}
 use borrow.Author.Tests.{leb-false, le-leb, lt-leb}
+use Rattle.definition.specs.Limits.{mostIdentifiers}
 use Rattle.definition.specs.Records.{nobody}
 use Rattle.tree.specs.declared.Issued.{Issued}
 use Rattle.tree.specs.Sequence.{idAt, countAfter, Draws}
 
-module _ (n : ℕ) {full : Bool} (e : full ≡ leb 512 n) where
-  pub room : full ≡ false → n < 512
-  room h = leb-false 512 n (sym e ∙ h)
+module _ (n : ℕ) {full : Bool} (e : full ≡ leb mostIdentifiers n) where
+  pub room : full ≡ false → n < mostIdentifiers
+  room h = leb-false mostIdentifiers n (sym e ∙ h)
 
   pub id-none : full ≡ true → nobody ≡ idAt n
   unfolding idAt
@@ -22,7 +23,7 @@ module _ (n : ℕ) {full : Bool} (e : full ≡ leb 512 n) where
   unfolding idAt
   id-next h = rw (← e, h) refl
 
-  pub count-full : full ≡ true → 513 ≡ countAfter n
+  pub count-full : full ≡ true → (suc mostIdentifiers) ≡ countAfter n
   unfolding countAfter
   count-full h = rw (← e, h) refl
 
@@ -30,19 +31,19 @@ module _ (n : ℕ) {full : Bool} (e : full ≡ leb 512 n) where
   unfolding countAfter
   count-more h = rw (← e, h) refl
 
-pub id-fits : (n : ℕ) → n < 512 → idAt n ≡ n
-id-fits n h = sym (id-next n (sym (lt-leb 512 n h)) refl)
+pub id-fits : (n : ℕ) → n < mostIdentifiers → idAt n ≡ n
+id-fits n h = sym (id-next n (sym (lt-leb mostIdentifiers n h)) refl)
 
 -- an identifier that fits is the count before it
 pub record Next (n : ℕ) (r : Issued) : Type 0 where
-  pub room : n < 512
+  pub room : n < mostIdentifiers
   pub id : r .id .0 ≡ n
   pub count : r .len ≡ n + 1
 
-pub drawn-next : {n : ℕ} {r : Issued} → Draws n r → r .len ≤ 512 → Next n r
-drawn-next {n} {r} d h = elim (decLe 512 n) [
-  | yes g ↦ absurd (omega (arith, h, d .count, count-full n (sym (le-leb 512 n g)) refl))
+pub drawn-next : {n : ℕ} {r : Issued} → Draws n r → r .len ≤ mostIdentifiers → Next n r
+drawn-next {n} {r} d h = elim (decLe mostIdentifiers n) [
+  | yes g ↦ absurd (omega (arith, h, d .count, count-full n (sym (le-leb mostIdentifiers n g)) refl))
   | no g ↦
-      let e = sym (lt-leb 512 n (omega (arith, g))) in
+      let e = sym (lt-leb mostIdentifiers n (omega (arith, g))) in
       record { room = omega (arith, g); id = d .id ∙ id-fits n (omega (arith, g)); count = d .count ∙ sym (count-more n e refl) }
 ]

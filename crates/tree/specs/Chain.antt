@@ -4,6 +4,7 @@ use mathlib.Core.Path.{_≡_}
 use mathlib.Core.Bool.{true, false, cond}
 use mathlib.Core.List.{List, reverse}
 use mathlib.Core.Logic.{_⊎_}
+use Rattle.definition.specs.Limits.{mostIdentifiers}
 use Rattle.definition.specs.Lists.{upFrom}
 use Rattle.tree.specs.declared.Chain.{Chain}
 use Rattle.tree.specs.declared.IssuedChain.{IssuedChain}
@@ -34,4 +35,4 @@ pub record Spans (c : Chain) (lo hi : ℕ) : Type 0 where
 
 -- the identifiers drawn since lo were issued, where all fit
 abbrev pub DrawnFrom : ℕ → IssuedChain → Type 0
-DrawnFrom lo r = r .len ≤ 512 → Spans (r .chain) lo (r .len)
+DrawnFrom lo r = r .len ≤ mostIdentifiers → Spans (r .chain) lo (r .len)

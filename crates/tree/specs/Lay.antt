@@ -3,6 +3,8 @@ use Prim.Native.Nat.{ℕ, _≤_, _<_, _-_, _*_}
 use mathlib.Core.Path.{_≡_}
 use mathlib.Core.List.{List, [], _∷_, _++_}
 use lib.ListN.{length, replicate}
+use Rattle.definition.specs.Limits.{mostIdentifiers}
+use Rattle.limits.specs.Arrays.{nodeFields}
 use Rattle.definition.specs.Lists.{concatMap}
 use Rattle.definition.specs.Records.{nobody}
 use Rattle.definition.specs.Tree.{Node, Place, Root, Left, Middle, Right, Unplaced}
@@ -29,9 +31,9 @@ row n =
     ∷ []
 
 unfoldable pub lay : List Node → List ℕ
-lay ns = concatMap row ns ++ replicate ((512 - length ns) * 9) nobody
+lay ns = concatMap row ns ++ replicate ((mostIdentifiers - length ns) * nodeFields) nobody
 
 -- the table holds the nodes, and len is their count; a count above 512 says that there are too many, and nothing of the table
 pub data Held (ns : List Node) (len : ℕ) (a : List ℕ) : Type 0 where
-  held : len ≤ 512 → length ns ≡ len → a ≡ lay ns → Held ns len a
-  tooMany : 512 < len → 512 < length ns → Held ns len a
+  held : len ≤ mostIdentifiers → length ns ≡ len → a ≡ lay ns → Held ns len a
+  tooMany : mostIdentifiers < len → mostIdentifiers < length ns → Held ns len a

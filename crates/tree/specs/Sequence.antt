@@ -1,18 +1,19 @@
 -- The sequence of the nodes' identifiers. Its number n is the identifier that is next, which is how many are issued; 513 says that a draw found no room.
-use Prim.Native.Nat.{ℕ, _+_}
+use Prim.Native.Nat.{ℕ, suc, _+_}
 use mathlib.Core.Path.{_≡_}
 use mathlib.Core.Bool.{cond}
 use lib.Dec.{leb}
+use Rattle.definition.specs.Limits.{mostIdentifiers}
 use Rattle.definition.specs.Records.{nobody}
 use Rattle.tree.specs.declared.Issued.{Issued}
 
 -- the identifier that the sequence gives next; none where 512 are issued
 unfoldable pub idAt : ℕ → ℕ
-idAt n = cond (leb 512 n) nobody n
+idAt n = cond (leb mostIdentifiers n) nobody n
 
 -- its number once that is issued
 unfoldable pub countAfter : ℕ → ℕ
-countAfter n = cond (leb 512 n) 513 (n + 1)
+countAfter n = cond (leb mostIdentifiers n) (suc mostIdentifiers) (n + 1)
 
 -- what is drawn where n are issued
 pub record Draws (n : ℕ) (r : Issued) : Type 0 where

@@ -3,6 +3,11 @@
 use arrays::push;
 use formula::FormulaNumber;
 use graph::PossibleWorld;
+use limits::FULL;
+use limits::MOST_IDENTIFIERS;
+use limits::NODE_FIELDS;
+use limits::Nodes;
+use limits::Numbers;
 ghost use mathlib.Core.Path.{_≡_};
 ghost use mathlib.Core.Bool.{cond};
 ghost use mathlib.Core.Logic.{_⊎_};
@@ -10,6 +15,7 @@ ghost use mathlib.Core.List.{List, [], _∷_, _++_};
 ghost use Prim.Native.Nat.{ℕ, _≤_, _<_, _+_};
 ghost use lib.Dec.{eqb, leb};
 ghost use lib.ListN.{length, getD, set};
+ghost use Rattle.definition.specs.Limits.{mostIdentifiers};
 ghost use Rattle.arrays.specs.Listed.{Listed};
 ghost use Rattle.definition.specs.Lists.{any, filter};
 ghost use Rattle.definition.specs.Records.{nobody, isNobody};
@@ -50,9 +56,9 @@ struct ProofTreeNodeIDSequence {
 
 impl ProofTreeNodeIDSequence {
     fn is_full(self) -> bool
-        ensures { λ r. ⌜ r ≡ leb 512 (self .issued) ⌝ }
+        ensures { λ r. ⌜ r ≡ leb mostIdentifiers (self .issued) ⌝ }
     {
-        512 <= self.issued
+        MOST_IDENTIFIERS <= self.issued
     }
 
     // The identifier that is next; none where there is no room.
@@ -70,7 +76,7 @@ impl ProofTreeNodeIDSequence {
         ensures { λ r. ⌜ r .issued ≡ countAfter (self .issued) ⌝ }
     {
         if self.is_full() {
-            return ProofTreeNodeIDSequence { issued: 513 };
+            return ProofTreeNodeIDSequence { issued: FULL };
         }
         ProofTreeNodeIDSequence {
             issued: self.issued + 1,
@@ -136,7 +142,7 @@ pub struct IssuedChain {
 
 // The chain with one identifier more, at its lower end.
 fn extended(c: Chain, id: ProofTreeNodeID) -> Chain
-    ensures { λ r. ⌜ ((lo : ℕ) → id .0 < 512 → Spans c lo (id .0) → Spans r lo (id .0 + 1)) ⌝ }
+    ensures { λ r. ⌜ ((lo : ℕ) → id .0 < mostIdentifiers → Spans c lo (id .0) → Spans r lo (id .0 + 1)) ⌝ }
 {
     if c.count == 0 {
         return Chain {
@@ -157,100 +163,100 @@ fn extended(c: Chain, id: ProofTreeNodeID) -> Chain
 }
 
 // Number j of the row of node x; 65535 where there is none.
-fn field(tree: &[u16; 4608], x: ProofTreeNodeID, j: usize) -> u16
-    ensures { λ r. ⌜ ((ns : List Node) → length ns ≤ 512 → now (tree .entry) ≡ lay ns → r ≡ getD (row (nodeAt ns (x .0))) j 65535) ⌝ }
+fn field(tree: &Nodes, x: ProofTreeNodeID, j: usize) -> u16
+    ensures { λ r. ⌜ ((ns : List Node) → length ns ≤ mostIdentifiers → now (tree .entry) ≡ lay ns → r ≡ getD (row (nodeAt ns (x .0))) j 65535) ⌝ }
 {
     let i = x.0 as usize;
-    if 512 <= i {
+    if MOST_IDENTIFIERS <= i {
         return 65535;
     }
-    if 9 <= j {
+    if NODE_FIELDS <= j {
         return 65535;
     }
-    tree[i * 9 + j]
+    tree[i * NODE_FIELDS + j]
 }
 
-pub fn parent_of(tree: &[u16; 4608], x: ProofTreeNodeID) -> ProofTreeNodeID
-    ensures { λ r. ⌜ ((ns : List Node) → length ns ≤ 512 → now (tree .entry) ≡ lay ns → r .0 ≡ nodeAt ns (x .0) .parent) ⌝ }
+pub fn parent_of(tree: &Nodes, x: ProofTreeNodeID) -> ProofTreeNodeID
+    ensures { λ r. ⌜ ((ns : List Node) → length ns ≤ mostIdentifiers → now (tree .entry) ≡ lay ns → r .0 ≡ nodeAt ns (x .0) .parent) ⌝ }
 {
     ProofTreeNodeID(field(tree, x, 0))
 }
 
 // Root 0, left 1, middle 2, right 3; 65535 if it is not in the tree.
-pub fn place_of(tree: &[u16; 4608], x: ProofTreeNodeID) -> u16
-    ensures { λ r. ⌜ ((ns : List Node) → length ns ≤ 512 → now (tree .entry) ≡ lay ns → r ≡ placeCode (nodeAt ns (x .0) .place)) ⌝ }
+pub fn place_of(tree: &Nodes, x: ProofTreeNodeID) -> u16
+    ensures { λ r. ⌜ ((ns : List Node) → length ns ≤ mostIdentifiers → now (tree .entry) ≡ lay ns → r ≡ placeCode (nodeAt ns (x .0) .place)) ⌝ }
 {
     field(tree, x, 1)
 }
 
-pub fn world_of(tree: &[u16; 4608], x: ProofTreeNodeID) -> PossibleWorld
-    ensures { λ r. ⌜ ((ns : List Node) → length ns ≤ 512 → now (tree .entry) ≡ lay ns → r .0 ≡ nodeAt ns (x .0) .world) ⌝ }
+pub fn world_of(tree: &Nodes, x: ProofTreeNodeID) -> PossibleWorld
+    ensures { λ r. ⌜ ((ns : List Node) → length ns ≤ mostIdentifiers → now (tree .entry) ≡ lay ns → r .0 ≡ nodeAt ns (x .0) .world) ⌝ }
 {
     PossibleWorld(field(tree, x, 2))
 }
 
-pub fn formula_of(tree: &[u16; 4608], x: ProofTreeNodeID) -> FormulaNumber
-    ensures { λ r. ⌜ ((ns : List Node) → length ns ≤ 512 → now (tree .entry) ≡ lay ns → r .0 ≡ nodeAt ns (x .0) .formula) ⌝ }
+pub fn formula_of(tree: &Nodes, x: ProofTreeNodeID) -> FormulaNumber
+    ensures { λ r. ⌜ ((ns : List Node) → length ns ≤ mostIdentifiers → now (tree .entry) ≡ lay ns → r .0 ≡ nodeAt ns (x .0) .formula) ⌝ }
 {
     FormulaNumber(field(tree, x, 3))
 }
 
-pub fn spawner_of(tree: &[u16; 4608], x: ProofTreeNodeID) -> ProofTreeNodeID
-    ensures { λ r. ⌜ ((ns : List Node) → length ns ≤ 512 → now (tree .entry) ≡ lay ns → r .0 ≡ nodeAt ns (x .0) .spawner) ⌝ }
+pub fn spawner_of(tree: &Nodes, x: ProofTreeNodeID) -> ProofTreeNodeID
+    ensures { λ r. ⌜ ((ns : List Node) → length ns ≤ mostIdentifiers → now (tree .entry) ≡ lay ns → r .0 ≡ nodeAt ns (x .0) .spawner) ⌝ }
 {
     ProofTreeNodeID(field(tree, x, 4))
 }
 
-pub fn contrarian_of(tree: &[u16; 4608], x: ProofTreeNodeID) -> ProofTreeNodeID
-    ensures { λ r. ⌜ ((ns : List Node) → length ns ≤ 512 → now (tree .entry) ≡ lay ns → r .0 ≡ nodeAt ns (x .0) .contrarian) ⌝ }
+pub fn contrarian_of(tree: &Nodes, x: ProofTreeNodeID) -> ProofTreeNodeID
+    ensures { λ r. ⌜ ((ns : List Node) → length ns ≤ mostIdentifiers → now (tree .entry) ≡ lay ns → r .0 ≡ nodeAt ns (x .0) .contrarian) ⌝ }
 {
     ProofTreeNodeID(field(tree, x, 5))
 }
 
-pub fn left_of(tree: &[u16; 4608], x: ProofTreeNodeID) -> ProofTreeNodeID
-    ensures { λ r. ⌜ ((ns : List Node) → length ns ≤ 512 → now (tree .entry) ≡ lay ns → r .0 ≡ nodeAt ns (x .0) .children .left) ⌝ }
+pub fn left_of(tree: &Nodes, x: ProofTreeNodeID) -> ProofTreeNodeID
+    ensures { λ r. ⌜ ((ns : List Node) → length ns ≤ mostIdentifiers → now (tree .entry) ≡ lay ns → r .0 ≡ nodeAt ns (x .0) .children .left) ⌝ }
 {
     ProofTreeNodeID(field(tree, x, 6))
 }
 
-pub fn middle_of(tree: &[u16; 4608], x: ProofTreeNodeID) -> ProofTreeNodeID
-    ensures { λ r. ⌜ ((ns : List Node) → length ns ≤ 512 → now (tree .entry) ≡ lay ns → r .0 ≡ nodeAt ns (x .0) .children .middle) ⌝ }
+pub fn middle_of(tree: &Nodes, x: ProofTreeNodeID) -> ProofTreeNodeID
+    ensures { λ r. ⌜ ((ns : List Node) → length ns ≤ mostIdentifiers → now (tree .entry) ≡ lay ns → r .0 ≡ nodeAt ns (x .0) .children .middle) ⌝ }
 {
     ProofTreeNodeID(field(tree, x, 7))
 }
 
-pub fn right_of(tree: &[u16; 4608], x: ProofTreeNodeID) -> ProofTreeNodeID
-    ensures { λ r. ⌜ ((ns : List Node) → length ns ≤ 512 → now (tree .entry) ≡ lay ns → r .0 ≡ nodeAt ns (x .0) .children .right) ⌝ }
+pub fn right_of(tree: &Nodes, x: ProofTreeNodeID) -> ProofTreeNodeID
+    ensures { λ r. ⌜ ((ns : List Node) → length ns ≤ mostIdentifiers → now (tree .entry) ≡ lay ns → r .0 ≡ nodeAt ns (x .0) .children .right) ⌝ }
 {
     ProofTreeNodeID(field(tree, x, 8))
 }
 
-pub fn is_contradictory(tree: &[u16; 4608], x: ProofTreeNodeID) -> bool
-    ensures { λ r. ⌜ ((ns : List Node) → length ns ≤ 512 → now (tree .entry) ≡ lay ns → r ≡ isContradictory (nodeAt ns (x .0))) ⌝ }
+pub fn is_contradictory(tree: &Nodes, x: ProofTreeNodeID) -> bool
+    ensures { λ r. ⌜ ((ns : List Node) → length ns ≤ mostIdentifiers → now (tree .entry) ≡ lay ns → r ≡ isContradictory (nodeAt ns (x .0))) ⌝ }
 {
     !contrarian_of(tree, x).is_none()
 }
 
 // Stores number j of the row of node x, where there is one.
-fn put_field(tree: &mut [u16; 4608], len: usize, x: ProofTreeNodeID, j: usize, v: u16)
+fn put_field(tree: &mut Nodes, len: usize, x: ProofTreeNodeID, j: usize, v: u16)
     ensures { λ r. ⌜ ((ns : List Node) (f : Node → Node) → ((n : Node) → row (f n) ≡ set (row n) j v) → Held ns len (now (tree .entry)) → Held (change ns (x .0) f) len (now (tree .exit))) ⌝ }
 {
     let i = x.0 as usize;
-    if 512 < len {
+    if MOST_IDENTIFIERS < len {
         return;
     }
     if len <= i {
         return;
     }
-    if 9 <= j {
+    if NODE_FIELDS <= j {
         return;
     }
-    tree[i * 9 + j] = v;
+    tree[i * NODE_FIELDS + j] = v;
 }
 
 // One node more, not in the tree yet: its identifier, and the count with it; none and 513 where there is no room.
 pub fn new_node(
-    tree: &mut [u16; 4608],
+    tree: &mut Nodes,
     len: usize,
     spawner: ProofTreeNodeID,
     formula: FormulaNumber,
@@ -269,7 +275,7 @@ pub fn new_node(
 
 // One node more, whose identifier goes to the lower end of the chain.
 pub fn extend(
-    tree: &mut [u16; 4608],
+    tree: &mut Nodes,
     here: IssuedChain,
     spawner: ProofTreeNodeID,
     formula: FormulaNumber,
@@ -289,7 +295,7 @@ pub fn extend(
 
 // The same, if the node is to be made.
 pub fn extend_if(
-    tree: &mut [u16; 4608],
+    tree: &mut Nodes,
     here: IssuedChain,
     spawner: ProofTreeNodeID,
     formula: FormulaNumber,
@@ -307,7 +313,7 @@ pub fn extend_if(
 
 // Marks node x against its contrarian.
 pub fn mark_child_node_as_contradictory(
-    tree: &mut [u16; 4608],
+    tree: &mut Nodes,
     len: usize,
     x: ProofTreeNodeID,
     contrarian: ProofTreeNodeID,
@@ -318,7 +324,7 @@ pub fn mark_child_node_as_contradictory(
 }
 
 // x becomes the child of y at a place: 1 left, 2 middle, 3 right.
-fn link(tree: &mut [u16; 4608], len: usize, y: ProofTreeNodeID, place: u16, x: ProofTreeNodeID)
+fn link(tree: &mut Nodes, len: usize, y: ProofTreeNodeID, place: u16, x: ProofTreeNodeID)
     ensures { λ r. ⌜ ((ns : List Node) (p : Place) → placeCode p ≡ place → Held ns len (now (tree .entry)) → Held (link ns (y .0) p (x .0)) len (now (tree .exit))) ⌝ }
 {
     put_field(tree, len, x, 0, y.0);
@@ -334,8 +340,8 @@ fn link(tree: &mut [u16; 4608], len: usize, y: ProofTreeNodeID, place: u16, x: P
 
 // Identifier k of a chain, from the top; none beyond the chain, and none of a chain that does not fit.
 pub fn chain_at(c: Chain, k: usize) -> ProofTreeNodeID
-    ensures { λ r. ⌜ (Below c 512 → k < c .count → r .0 ≡ getD (chainOf c) k 0)
-        × ((c .count ≤ k) ⊎ (512 < c .start .0 + c .count) → r .0 ≡ nobody) ⌝ }
+    ensures { λ r. ⌜ (Below c mostIdentifiers → k < c .count → r .0 ≡ getD (chainOf c) k 0)
+        × ((c .count ≤ k) ⊎ (mostIdentifiers < c .start .0 + c .count) → r .0 ≡ nobody) ⌝ }
 {
     let first = c.start;
     let s = first.0 as usize;
@@ -343,7 +349,7 @@ pub fn chain_at(c: Chain, k: usize) -> ProofTreeNodeID
     if n <= k {
         return ProofTreeNodeID::NONE;
     }
-    if 512 < s + n {
+    if MOST_IDENTIFIERS < s + n {
         return ProofTreeNodeID::NONE;
     }
     if c.rising {
@@ -353,10 +359,10 @@ pub fn chain_at(c: Chain, k: usize) -> ProofTreeNodeID
 }
 
 // The chain below y: the first at a place, each further one the middle child of the one before.
-pub fn link_chain(tree: &mut [u16; 4608], len: usize, y: ProofTreeNodeID, place: u16, c: Chain)
-    ensures { λ r. ⌜ ((ns : List Node) (p : Place) → placeCode p ≡ place → Held ns len (now (tree .entry)) → (length ns ≤ 512 → Below c (length ns)) → Held (linkChain ns (y .0) p (chainOf c)) len (now (tree .exit))) ⌝ }
+pub fn link_chain(tree: &mut Nodes, len: usize, y: ProofTreeNodeID, place: u16, c: Chain)
+    ensures { λ r. ⌜ ((ns : List Node) (p : Place) → placeCode p ≡ place → Held ns len (now (tree .entry)) → (length ns ≤ mostIdentifiers → Below c (length ns)) → Held (linkChain ns (y .0) p (chainOf c)) len (now (tree .exit))) ⌝ }
 {
-    if 512 < len {
+    if MOST_IDENTIFIERS < len {
         return;
     }
     let n = c.count as usize;
@@ -373,8 +379,8 @@ pub fn link_chain(tree: &mut [u16; 4608], len: usize, y: ProofTreeNodeID, place:
 }
 
 // The path of a leaf holds a contradictory node.
-fn path_is_contradictory(tree: &[u16; 4608], len: usize, leaf: ProofTreeNodeID) -> bool
-    ensures { λ r. ⌜ ((ns : List Node) → length ns ≡ len → len ≤ 512 → now (tree .entry) ≡ lay ns → r ≡ any (λ x. isContradictory (nodeAt ns x)) (path ns (leaf .0))) ⌝ }
+fn path_is_contradictory(tree: &Nodes, len: usize, leaf: ProofTreeNodeID) -> bool
+    ensures { λ r. ⌜ ((ns : List Node) → length ns ≡ len → len ≤ mostIdentifiers → now (tree .entry) ≡ lay ns → r ≡ any (λ x. isContradictory (nodeAt ns x)) (path ns (leaf .0))) ⌝ }
 {
     let mut cur = leaf;
     let mut k: usize = 0;
@@ -398,8 +404,8 @@ fn are_none(l: ProofTreeNodeID, m: ProofTreeNodeID, r: ProofTreeNodeID) -> bool
     l.is_none() && (m.is_none() && r.is_none())
 }
 
-pub fn is_leaf(tree: &[u16; 4608], x: ProofTreeNodeID) -> bool
-    ensures { λ r. ⌜ ((ns : List Node) → length ns ≤ 512 → now (tree .entry) ≡ lay ns → r ≡ isLeaf (nodeAt ns (x .0) .children)) ⌝ }
+pub fn is_leaf(tree: &Nodes, x: ProofTreeNodeID) -> bool
+    ensures { λ r. ⌜ ((ns : List Node) → length ns ≤ mostIdentifiers → now (tree .entry) ≡ lay ns → r ≡ isLeaf (nodeAt ns (x .0) .children)) ⌝ }
 {
     let l = left_of(tree, x);
     let m = middle_of(tree, x);
@@ -409,13 +415,13 @@ pub fn is_leaf(tree: &[u16; 4608], x: ProofTreeNodeID) -> bool
 
 // The leaves at and below x, left, then middle, then right.
 pub fn leaves_below(
-    tree: &[u16; 4608],
+    tree: &Nodes,
     x: ProofTreeNodeID,
     depth: usize,
-    out: &mut [u16; 512],
+    out: &mut Numbers,
     n: usize,
 ) -> usize
-    ensures { λ r. ⌜ ((ns : List Node) (l : List ℕ) → length ns ≤ 512 → now (tree .entry) ≡ lay ns → Listed l n (now (out .entry)) → Listed (l ++ leavesBelow depth ns (x .0)) r (now (out .exit))) ⌝ }
+    ensures { λ r. ⌜ ((ns : List Node) (l : List ℕ) → length ns ≤ mostIdentifiers → now (tree .entry) ≡ lay ns → Listed l n (now (out .entry)) → Listed (l ++ leavesBelow depth ns (x .0)) r (now (out .exit))) ⌝ }
 {
     if x.is_none() {
         return n;
@@ -436,13 +442,13 @@ pub fn leaves_below(
 
 // The leaves at and below x, in the same order, but none at or below a contradictory node.
 fn takers_below(
-    tree: &[u16; 4608],
+    tree: &Nodes,
     x: ProofTreeNodeID,
     depth: usize,
-    out: &mut [u16; 512],
+    out: &mut Numbers,
     n: usize,
 ) -> usize
-    ensures { λ r. ⌜ ((ns : List Node) (l : List ℕ) → length ns ≤ 512 → now (tree .entry) ≡ lay ns → Listed l n (now (out .entry)) → Listed (l ++ openBelow depth ns (x .0)) r (now (out .exit))) ⌝ }
+    ensures { λ r. ⌜ ((ns : List Node) (l : List ℕ) → length ns ≤ mostIdentifiers → now (tree .entry) ≡ lay ns → Listed l n (now (out .entry)) → Listed (l ++ openBelow depth ns (x .0)) r (now (out .exit))) ⌝ }
 {
     if x.is_none() {
         return n;
@@ -465,13 +471,8 @@ fn takers_below(
 }
 
 // The leaves whose paths hold the target and no contradictory node.
-pub fn takers(
-    tree: &[u16; 4608],
-    len: usize,
-    target: ProofTreeNodeID,
-    out: &mut [u16; 512],
-) -> usize
-    ensures { λ r. ⌜ ((ns : List Node) → Treed ns → length ns ≡ len → len ≤ 512 → now (tree .entry) ≡ lay ns → Listed [] 0 (now (out .entry))
+pub fn takers(tree: &Nodes, len: usize, target: ProofTreeNodeID, out: &mut Numbers) -> usize
+    ensures { λ r. ⌜ ((ns : List Node) → Treed ns → length ns ≡ len → len ≤ mostIdentifiers → now (tree .entry) ≡ lay ns → Listed [] 0 (now (out .entry))
         → Listed (filter (takes ns (target .0)) (leaves ns)) r (now (out .exit))) ⌝ }
 {
     if place_of(tree, target) == 65535 {

@@ -1,13 +1,14 @@
 use Prim.Native.Nat.{ℕ, _+_, _*_, _-_, _≤_}
 use mathlib.Core.Bool.{Bool}
 use borrow.Author.Needs.{needs}
+use Rattle.limits.specs.Arrays.{rowWords}
 use Rattle.bits.specs.Bits.{Bits}
 use Rattle.bits.proofs.Laws.{without, row-out, row-start, row-next, row-end}
 use Rattle.bits.proofs.clear_row.Statement.{statement}
 use Rattle.bits.proofs.clear_row.Tie as tie
 
 abbrev Inv-loop : tie.InvT-loop
-Inv-loop words₀ row first k₀ k-end words k = (row * 16 ≤ k) × (k ≤ row * 16 + 16) × ((p : ℕ → Bool) → Bits p words₀ → Bits (without row k p) words)
+Inv-loop words₀ row first k₀ k-end words k = (row * rowWords ≤ k) × (k ≤ row * rowWords + rowWords) × ((p : ℕ → Bool) → Bits p words₀ → Bits (without row k p) words)
 
 abbrev μ-loop : tie.MeasureT-loop
 μ-loop words₀ row first k₀ k-end words k = k-end - k

@@ -3,6 +3,7 @@ use mathlib.Core.Path.{refl}
 use Prim.Native.Nat.{_≤_, _-_}
 use mathlib.Core.List.{List, []}
 use native.Mathlib.Omega.{arith}
+use Rattle.definition.specs.Limits.{mostFormulas}
 use Rattle.definition.specs.Records.{Rec}
 use Rattle.formula.specs.Recorded.{Recorded}
 use Rattle.tree.specs.Chain.{DrawnFrom}
@@ -13,7 +14,7 @@ use Rattle.branch.proofs.branch_nodes.Statement.{statement}
 use Rattle.branch.proofs.branch_nodes.Tie as tie
 
 abbrev Inv-loop : tie.InvT-loop
-Inv-loop formulas count tree₀ nodes₀ i₀ tree nodes i = (i ≤ count) × DrawnFrom 0 nodes × ((rs : List Rec) → Recorded rs count formulas → count ≤ 1280 → Held [] 0 tree₀ → Beginning rs (nodes .len) tree i)
+Inv-loop formulas count tree₀ nodes₀ i₀ tree nodes i = (i ≤ count) × DrawnFrom 0 nodes × ((rs : List Rec) → Recorded rs count formulas → count ≤ mostFormulas → Held [] 0 tree₀ → Beginning rs (nodes .len) tree i)
 
 abbrev μ-loop : tie.MeasureT-loop
 μ-loop formulas count tree₀ nodes₀ i₀ tree nodes i = count - i

@@ -4,6 +4,7 @@ use mathlib.Core.List.{List}
 use Prim.Native.Nat.{_≤_, _-_}
 use native.Mathlib.Omega.{arith}
 use lib.ListN.{length}
+use Rattle.definition.specs.Limits.{mostIdentifiers, mostFormulas}
 use Rattle.definition.specs.Records.{Rec, formulaOf}
 use Rattle.definition.specs.Tree.{Node, nodeAt}
 use Rattle.formula.specs.Recorded.{Recorded}
@@ -15,7 +16,7 @@ use Rattle.contradictions.proofs.find_above.Tie as tie
 
 abbrev Inv-loop : tie.InvT-loop
 Inv-loop c formulas count tree len x world last₀ cur₀ k₀ last cur k =
-    (rs : List Rec) (ns : List Node) → Claims rs (formulaOf rs (nodeAt ns (x .0) .formula)) c → Recorded rs count formulas → count ≤ 1280 → length ns ≡ len → len ≤ 512 → tree ≡ lay ns →
+    (rs : List Rec) (ns : List Node) → Claims rs (formulaOf rs (nodeAt ns (x .0) .formula)) c → Recorded rs count formulas → count ≤ mostFormulas → length ns ≡ len → len ≤ mostIdentifiers → tree ≡ lay ns →
     (world .0 ≡ nodeAt ns (x .0) .world) × Seeking rs ns (x .0) len (cur .0) (last .0) k
 
 abbrev μ-loop : tie.MeasureT-loop

@@ -4,6 +4,7 @@ use mathlib.Core.Path.{_≡_, _∙_}
 use mathlib.Core.List.{List}
 use native.Mathlib.Omega.{arith}
 use lib.ListN.{length}
+use Rattle.definition.specs.Limits.{mostIdentifiers, mostFormulas}
 use Rattle.definition.specs.Records.{Rec}
 use Rattle.definition.specs.Tree.{Node}
 use Rattle.definition.proofs.Treed.{spots, In}
@@ -16,7 +17,7 @@ use Rattle.contradictions.proofs.get_contradictory_node_ids.Tie as tie
 
 abbrev Inv-loop : tie.InvT-loop
 Inv-loop formulas count tree len old cur₀ k₀ cur k =
-    (rs : List Rec) (ns : List Node) → Recorded rs count formulas → count ≤ 1280 → length ns ≡ len → len ≤ 512 → tree ≡ lay ns → Above rs ns old → In (spots ns) (cur₀ .0) → old ≤ cur₀ .0 →
+    (rs : List Rec) (ns : List Node) → Recorded rs count formulas → count ≤ mostFormulas → length ns ≡ len → len ≤ mostIdentifiers → tree ≡ lay ns → Above rs ns old → In (spots ns) (cur₀ .0) → old ≤ cur₀ .0 →
     Searching rs ns old (cur₀ .0) (cur .0) len k
 
 abbrev μ-loop : tie.MeasureT-loop

@@ -3,6 +3,7 @@ use Prim.Native.Nat.{_≤_, _-_}
 use mathlib.Core.List.{List}
 use mathlib.Core.Path.{_∙_}
 use native.Mathlib.Omega.{arith}
+use Rattle.definition.specs.Limits.{mostIdentifiers, mostFormulas}
 use Rattle.definition.specs.Records.{Rec}
 use Rattle.definition.specs.Tree.{Node}
 use Rattle.definition.proofs.Fresh.{Above}
@@ -15,7 +16,7 @@ use Rattle.contradictions.proofs.mark_paths.Tie as tie
 
 abbrev Inv-loop : tie.InvT-loop
 Inv-loop formulas count tree₀ len old every₀ k₀ tree every k =
-    (old ≤ k) × (k - old ≤ len - old) × ((rs : List Rec) (ns : List Node) → Recorded rs count formulas → count ≤ 1280 → Held ns len tree₀ → len ≤ 512 → Above rs ns old → Marking rs ns old len tree every k)
+    (old ≤ k) × (k - old ≤ len - old) × ((rs : List Rec) (ns : List Node) → Recorded rs count formulas → count ≤ mostFormulas → Held ns len tree₀ → len ≤ mostIdentifiers → Above rs ns old → Marking rs ns old len tree every k)
 
 abbrev μ-loop : tie.MeasureT-loop
 μ-loop formulas count tree₀ len old every₀ k₀ tree every k = len - k

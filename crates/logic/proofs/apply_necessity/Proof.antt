@@ -4,6 +4,7 @@ use mathlib.Core.List.{[], _∷_, _++_, append-nil}
 use mathlib.Core.Option.{none}
 use native.Mathlib.Omega.{arith}
 use lib.ListN.{length-replicate}
+use Rattle.definition.specs.Limits.{mostIdentifiers}
 use Rattle.arrays.proofs.Listed.{listed-none}
 use Rattle.tree.proofs.Nodes.{held-as}
 use Rattle.necessities.proofs.Stacks.{stack-row, stack-count}
@@ -51,7 +52,7 @@ returns c = λ F s recs q log b.
     let n = necessityOf s x f in
     let drawn = c .before .before .before .before .before .before .before .before .before .before .before .before .before .before .before .before .before .before .before .before .before .before .before .before .before .before .before .before .before .before .before .before .before .before .before .before .before .initialize-graph-if-needed .ensures F (s .graph) log (b .graph) in
     let h = held-as (t ++ []) (sym (append-nil t)) (before-held b) in
-    let fits : c .before .before .before .before .before .before .before .before .before .before .before .before .before .before .before .before .before .before .before .before .before .before .before .before .before .before .before .before .before .before .before .before .before .before .before .before .before .before .before .args .p .nodes ≤ 512 = omega (arith, b .fits, b .count) in
+    let fits : c .before .before .before .before .before .before .before .before .before .before .before .before .before .before .before .before .before .before .before .before .before .before .before .before .before .before .before .before .before .before .before .before .before .before .before .before .before .before .before .args .p .nodes ≤ mostIdentifiers = omega (arith, b .fits, b .count) in
     let z = stands t [] (b .count) h fits in
     let st = c .before .before .before .before .before .before .before .before .before .before .before .before .before .before .before .before .before .before .before .before .before .before .before .before .before .before .before .before .before .before .before .store-necessity .ensures s q _ _ b in
     let one : 0 < c .before .before .before .before .before .before .before .before .before .before .before .before .before .before .before .before .before .before .before .before .before .before .before .before .before .before .before .before .before .before .before .store-necessity .result = omega (arith, stack-count st) in
@@ -60,7 +61,7 @@ returns c = λ F s recs q log b.
     let th = c .before .before .before .before .before .before .before .before .before .before .before .before .before .before .before .before .before .before .before .before .before .before .before .before .before .before .leaves-through .ensures t (b .treed) z listed-none in
     let on = through-own s x f (b .treed) (c .before .before .before .before .before .before .before .before .before .before .before .before .before .before .before .before .before .before .before .before .before .leaves-of .ensures t n _ [] z (row .leaves) th (through-fits s x f b th .0) listed-none) in
     let few = paths-few t (b .treed) n z on in
-    let seen = c .before .before .before .before .before .before .before .before .before .before .before .before .before .before .before .before .before .worlds-on-paths .ensures .0 t _ z on few (paths-seen (λ y. y < 512) t n (leaves-low t (b .treed) (b .count) fits)) (length-replicate {A = ℕ} 512 0) in
+    let seen = c .before .before .before .before .before .before .before .before .before .before .before .before .before .before .before .before .before .worlds-on-paths .ensures .0 t _ z on few (paths-seen (λ y. y < mostIdentifiers) t n (leaves-low t (b .treed) (b .count) fits)) (length-replicate {A = ℕ} mostIdentifiers 0) in
     let w = c .before .before .before .before .before .before .before .before .before .before .before .before .worlds-to-visit .ensures _ n _ row drawn listed-none in
     let r = c .before .before .before .before .reapply-necessity .ensures t [] _ none (n ∷ s .necessities) blank [] _ 0 _ _ st one k w (visit-fits _ n drawn w) (visit-low _ n drawn) on few seen h (λ _. listing-start _) in
     necessity-after F s x recs f q (r .0) (r .1) drawn (b .waiting) (b .treed) (c .place-given .ensures)

@@ -5,6 +5,7 @@ use mathlib.Core.List.{List, [], _++_}
 use mathlib.Core.Option.{Option}
 use native.Mathlib.Omega.{arith}
 use lib.ListN.{length, drop}
+use Rattle.definition.specs.Limits.{mostIdentifiers}
 use Rattle.arrays.specs.Listed.{Listed}
 use Rattle.arrays.proofs.Listed.{listed-count}
 use Rattle.definition.specs.Lists.{Each}
@@ -22,8 +23,8 @@ use Rattle.logic.proofs.give_on.Tie as tie
 abbrev Inv-loop : tie.InvT-loop
 Inv-loop tree₀ len spawner formula seen worlds m on k items₀ count here₀ j₀ tree items here j =
     (j ≤ k) ×
-    ((t more : List Node) (fk : Option Fork) (n : Necessity) (ws ls : List ℕ) (rs : List Row) → n .spawner ≡ spawner .0 → n .formula ≡ formula .0 → Listed ws m worlds → m ≤ 512 → Each (λ v. v < 32) ws →
-    Listed ls k on → k ≤ 512 → Each (Seen t fk seen) ls → Held (t ++ more) (here₀ .nodes) tree₀ → (here₀ .nodes ≤ 512 → Listing rs [] (here₀ .items) (here₀ .nodes) items₀) →
+    ((t more : List Node) (fk : Option Fork) (n : Necessity) (ws ls : List ℕ) (rs : List Row) → n .spawner ≡ spawner .0 → n .formula ≡ formula .0 → Listed ws m worlds → m ≤ mostIdentifiers → Each (λ v. v < 32) ws →
+    Listed ls k on → k ≤ mostIdentifiers → Each (Seen t fk seen) ls → Held (t ++ more) (here₀ .nodes) tree₀ → (here₀ .nodes ≤ mostIdentifiers → Listing rs [] (here₀ .items) (here₀ .nodes) items₀) →
     Giving t fk n ws (drop j ls) ((t ++ more) ++ giveOn t fk n ws (length (t ++ more)) ls .nodes) rs (giveOn t fk n ws (length (t ++ more)) ls .subtrees) (here .nodes) tree (here .items) items)
 
 abbrev μ-loop : tie.MeasureT-loop

@@ -5,6 +5,7 @@ use mathlib.Core.List.{List, [], _++_}
 use mathlib.Core.Option.{some}
 use native.Mathlib.Omega.{arith}
 use lib.ListN.{length}
+use Rattle.definition.specs.Limits.{mostIdentifiers}
 use Rattle.definition.specs.Lists.{Each}
 use Rattle.definition.specs.Graph.{Graph}
 use Rattle.definition.specs.Tree.{Node, leaves}
@@ -27,7 +28,7 @@ abbrev Inv-loop : tie.InvT-loop
 Inv-loop tree₀ base edges worlds rows visited₀ order c node seen items₀ here₀ i₀ tree visited items here i =
     (i ≤ c) ×
     ((t more : List Node) (g : Graph) (ns : List Necessity) (rs : List Row) (leafBits : List ℕ) (fk : Fork) → Stack ns c order rows leafBits visited₀ → fk .node ≡ node .0 → Drawn g worlds edges → length t ≡ base →
-    Treed t → Each (Spawned t) ns → (0 < c → Each (Seen t (some fk) seen) (leaves t)) → Held (t ++ more) (here₀ .nodes) tree₀ → (here₀ .nodes ≤ 512 → Listing rs [] (here₀ .items) (here₀ .nodes) items₀) →
+    Treed t → Each (Spawned t) ns → (0 < c → Each (Seen t (some fk) seen) (leaves t)) → Held (t ++ more) (here₀ .nodes) tree₀ → (here₀ .nodes ≤ mostIdentifiers → Listing rs [] (here₀ .items) (here₀ .nodes) items₀) →
     Again t g fk ns ((t ++ more) ++ reapplyNecessityAfterPossibility t g fk (length (t ++ more)) ns .nodes) rs (reapplyNecessityAfterPossibility t g fk (length (t ++ more)) ns .subtrees) c i here tree items order rows leafBits visited)
 
 abbrev μ-loop : tie.MeasureT-loop
@@ -60,7 +61,7 @@ loop-again c = (
   λ t more g ns rs leafBits fk s fe d b tree at seen h list.
       let z = c .before .before .before .before .before .before .before .before .before .loop .inv .1 t more g ns rs leafBits fk s fe d b tree at seen h list in
       let i = c .before .before .before .before .before .before .before .before .before .loop .i in
-      let small : c .before .before .before .before .before .before .before .before .before .loop .here .nodes ≤ 512 = omega (arith, c .before .before .before .before .before .before .if1 .left) in
+      let small : c .before .before .before .before .before .before .before .before .before .loop .here .nodes ≤ mostIdentifiers = omega (arith, c .before .before .before .before .before .before .if1 .left) in
       let low = c .before .before .before .before .before .before .before .before .loop-test .taken in
       let inside : i < length ns = omega (arith, low, stack-count s) in
       let st = z .stack small in

@@ -4,6 +4,7 @@ use mathlib.Core.Path.{_≡_}
 use mathlib.Core.Bool.{Bool}
 use mathlib.Core.List.{List}
 use native.Mathlib.Omega.{arith}
+use Rattle.definition.specs.Limits.{mostIdentifiers}
 use Rattle.arrays.specs.Listed.{Listed}
 use Rattle.arrays.proofs.Listed.{listed-count}
 use Rattle.bits.specs.Bits.{bitOf}
@@ -17,7 +18,7 @@ use Rattle.modality.proofs.give_on_leaf.Statement.{statement}
 use Rattle.modality.proofs.give_on_leaf.Tie as tie
 
 abbrev Inv-loop : tie.InvT-loop
-Inv-loop tree₀ len spawner formula here worlds m given₀ j₀ tree made j = (j ≤ m) × DrawnFrom len made × ((ns : List Node) (p : ℕ → Bool) (ws : List ℕ) → Listed ws m worlds → m ≤ 512 → Each (λ v. v < 32) ws → ((v : ℕ) → v < 32 → bitOf here v ≡ p v) → Held ns len tree₀ → Held (given ns (newNode (spawner .0) (formula .0)) p ws j) (made .len) tree)
+Inv-loop tree₀ len spawner formula here worlds m given₀ j₀ tree made j = (j ≤ m) × DrawnFrom len made × ((ns : List Node) (p : ℕ → Bool) (ws : List ℕ) → Listed ws m worlds → m ≤ mostIdentifiers → Each (λ v. v < 32) ws → ((v : ℕ) → v < 32 → bitOf here v ≡ p v) → Held ns len tree₀ → Held (given ns (newNode (spawner .0) (formula .0)) p ws j) (made .len) tree)
 
 abbrev μ-loop : tie.MeasureT-loop
 μ-loop tree₀ len spawner formula here worlds m given₀ j₀ tree made j = m - j

@@ -3,6 +3,7 @@ use Prim.Native.Nat.{ℕ, _≤_, _-_}
 use mathlib.Core.List.{List, _++_}
 use native.Mathlib.Omega.{arith}
 use lib.ListN.{take}
+use Rattle.definition.specs.Limits.{mostIdentifiers}
 use Rattle.arrays.specs.Listed.{Listed}
 use Rattle.arrays.proofs.Listed.{listed-count}
 use Rattle.definition.specs.Lists.{filter}
@@ -16,7 +17,7 @@ use Rattle.modality.proofs.leaves_of.Statement.{statement}
 use Rattle.modality.proofs.leaves_of.Tie as tie
 
 abbrev Inv-loop : tie.InvT-loop
-Inv-loop tree base leafs k all m out₀ c n₀ j₀ out n j = (j ≤ m) × ((t : List Node) (s : Necessity) (ls l : List ℕ) → Stands t base tree → InRow k (s .leaves) leafs → Listed ls m all → m ≤ 512 → Listed l c out₀ → Listed (l ++ filter (through t s) (take j ls)) n out)
+Inv-loop tree base leafs k all m out₀ c n₀ j₀ out n j = (j ≤ m) × ((t : List Node) (s : Necessity) (ls l : List ℕ) → Stands t base tree → InRow k (s .leaves) leafs → Listed ls m all → m ≤ mostIdentifiers → Listed l c out₀ → Listed (l ++ filter (through t s) (take j ls)) n out)
 
 abbrev μ-loop : tie.MeasureT-loop
 μ-loop tree base leafs k all m out₀ c n₀ j₀ out n j = m - j

@@ -4,6 +4,7 @@ use mathlib.Core.Path.{_≡_, refl, _∙_}
 use mathlib.Core.Bool.{false}
 use mathlib.Core.List.{List}
 use lib.ListN.{length, getD, take}
+use Rattle.definition.specs.Limits.{mostIdentifiers}
 use Rattle.arrays.specs.Listed.{Listed}
 use Rattle.definition.specs.Lists.{Each, elem}
 use Rattle.definition.specs.Tree.{Node}
@@ -15,8 +16,8 @@ use Rattle.modality.proofs.worlds_on_paths.Statement.{statement}
 use Rattle.modality.proofs.worlds_on_paths.Tie as tie
 
 abbrev Inv-loop : tie.InvT-loop
-Inv-loop tree base forking on m seen₀ j₀ seen j = (j ≤ m) × ((t : List Node) (ls : List ℕ) → Stands t base tree → Listed ls m on → m ≤ 512 → Each (λ l. l < 512) ls → length seen₀ ≡ 512 → (length seen ≡ 512) × Each (Seen t (forkOf forking) seen) (take j ls))
-    × ((ls : List ℕ) → Listed ls m on → m ≤ 512 → (x : ℕ) → elem x ls ≡ false → getD seen x 0 ≡ getD seen₀ x 0)
+Inv-loop tree base forking on m seen₀ j₀ seen j = (j ≤ m) × ((t : List Node) (ls : List ℕ) → Stands t base tree → Listed ls m on → m ≤ mostIdentifiers → Each (λ l. l < mostIdentifiers) ls → length seen₀ ≡ mostIdentifiers → (length seen ≡ mostIdentifiers) × Each (Seen t (forkOf forking) seen) (take j ls))
+    × ((ls : List ℕ) → Listed ls m on → m ≤ mostIdentifiers → (x : ℕ) → elem x ls ≡ false → getD seen x 0 ≡ getD seen₀ x 0)
 
 abbrev μ-loop : tie.MeasureT-loop
 μ-loop tree base forking on m seen₀ j₀ seen j = m - j

@@ -2,6 +2,7 @@ use Prim.Native.Nat.{ℕ, _≤_, _<_, _-_}
 use mathlib.Core.List.{List}
 use lib.ListN.{take}
 use borrow.Author.Needs.{needs}
+use Rattle.definition.specs.Limits.{mostIdentifiers}
 use Rattle.arrays.specs.Listed.{Listed}
 use Rattle.definition.specs.Lists.{Each}
 use Rattle.necessities.specs.Change.{Added}
@@ -10,7 +11,7 @@ use Rattle.necessities.proofs.insert_all.Statement.{statement}
 use Rattle.necessities.proofs.insert_all.Tie as tie
 
 abbrev Inv-loop : tie.InvT-loop
-Inv-loop words₀ k list m i₀ words i = (i ≤ m) × ((l : List ℕ) → Listed l m list → m ≤ 512 → Each (λ x. x < 512) l → Added k (take i l) words₀ words)
+Inv-loop words₀ k list m i₀ words i = (i ≤ m) × ((l : List ℕ) → Listed l m list → m ≤ mostIdentifiers → Each (λ x. x < mostIdentifiers) l → Added k (take i l) words₀ words)
 
 abbrev μ-loop : tie.MeasureT-loop
 μ-loop words₀ k list m i₀ words i = m - i

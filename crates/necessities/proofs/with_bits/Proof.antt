@@ -2,6 +2,7 @@ use Prim.Native.Nat.{ℕ, _≤_, _<_, _-_}
 use mathlib.Core.List.{List, _++_}
 use lib.ListN.{take}
 use borrow.Author.Needs.{needs}
+use Rattle.definition.specs.Limits.{mostIdentifiers}
 use Rattle.arrays.specs.Listed.{Listed}
 use Rattle.definition.specs.Lists.{Each}
 use Rattle.necessities.specs.Stored.{InWord}
@@ -10,7 +11,7 @@ use Rattle.necessities.proofs.with_bits.Statement.{statement}
 use Rattle.necessities.proofs.with_bits.Tie as tie
 
 abbrev Inv-loop : tie.InvT-loop
-Inv-loop word list m more₀ j₀ more j = (j ≤ m) × ((old l : List ℕ) → Listed l m list → m ≤ 512 → Each (λ x. x < 32) l → InWord old word → InWord (old ++ take j l) more)
+Inv-loop word list m more₀ j₀ more j = (j ≤ m) × ((old l : List ℕ) → Listed l m list → m ≤ mostIdentifiers → Each (λ x. x < 32) l → InWord old word → InWord (old ++ take j l) more)
 
 abbrev μ-loop : tie.MeasureT-loop
 μ-loop word list m more₀ j₀ more j = m - j

@@ -1,7 +1,8 @@
 use borrow.Author.Needs.{needs}
 use mathlib.Core.Path.{_∙_, sym}
-use Prim.Native.Nat.{ℕ, _≤_, _-_}
+use Prim.Native.Nat.{ℕ, suc, _≤_, _-_}
 use native.Mathlib.Omega.{arith}
+use Rattle.definition.specs.Limits.{mostIdentifiers}
 use Rattle.definition.specs.Flags.{Flags}
 use Rattle.definition.specs.Run.{State}
 use Rattle.definition.proofs.Ready.{Fit}
@@ -14,12 +15,12 @@ use Rattle.proof.proofs.prove.Tie as tie
 
 abbrev Inv-loop : tie.InvT-loop
 Inv-loop logic skip formulas₀ tree₀ edges₀ rows₀ leaves₀ visited₀ order₀ wait₀ classes₀ p₀ n₀ formulas tree edges rows leaves visited order wait classes p n =
-    (n ≤ 513) ×
+    (n ≤ (suc mostIdentifiers)) ×
     ((F : Flags) (k : ℕ) (s : State) → Flagged F logic skip → Fit F k s → Watch F s → AllRooted s → Kept s p₀ formulas₀ tree₀ edges₀ rows₀ leaves₀ visited₀ order₀ wait₀ classes₀ →
     Going F k s n p formulas tree edges rows leaves visited order wait classes)
 
 abbrev μ-loop : tie.MeasureT-loop
-μ-loop logic skip formulas₀ tree₀ edges₀ rows₀ leaves₀ visited₀ order₀ wait₀ classes₀ p₀ n₀ formulas tree edges rows leaves visited order wait classes p n = 513 - n
+μ-loop logic skip formulas₀ tree₀ edges₀ rows₀ leaves₀ visited₀ order₀ wait₀ classes₀ p₀ n₀ formulas tree edges rows leaves visited order wait classes p n = (suc mostIdentifiers) - n
 
 loop-holds : tie.Need-loop-holds Inv-loop μ-loop
 loop-holds c = (search needs, λ F k s l f w a h. going-start f w a h (omega arith))

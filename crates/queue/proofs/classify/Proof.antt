@@ -4,6 +4,7 @@ use mathlib.Core.Path.{_≡_}
 use mathlib.Core.List.{List, _++_, map}
 use native.Mathlib.Omega.{arith}
 use lib.ListN.{length, length-append, take}
+use Rattle.definition.specs.Limits.{mostIdentifiers, mostFormulas}
 use Rattle.arrays.specs.Listed.{Listed}
 use Rattle.arrays.proofs.Listed.{listed-count}
 use Rattle.definition.specs.Records.{Rec}
@@ -17,7 +18,7 @@ use Rattle.queue.proofs.classify.Tie as tie
 
 abbrev Inv-loop : tie.InvT-loop
 Inv-loop formulas count tree wait n classes₀ m i₀ classes i =
-    (rs : List Rec) (ns : List Node) (q more : List ℕ) → Recorded rs count formulas → count ≤ 1280 → length ns ≤ 512 → tree ≡ lay ns → Listed (q ++ more) n wait → n ≤ 512 → length q ≡ m → Listed (map (D.getNodePriority rs ns) q) m classes₀ →
+    (rs : List Rec) (ns : List Node) (q more : List ℕ) → Recorded rs count formulas → count ≤ mostFormulas → length ns ≤ mostIdentifiers → tree ≡ lay ns → Listed (q ++ more) n wait → n ≤ mostIdentifiers → length q ≡ m → Listed (map (D.getNodePriority rs ns) q) m classes₀ →
     (i ≤ n) × Listed (map (D.getNodePriority rs ns) (take i (q ++ more))) i classes
 
 abbrev μ-loop : tie.MeasureT-loop

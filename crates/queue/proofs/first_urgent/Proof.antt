@@ -3,6 +3,7 @@ use Prim.Native.Nat.{ℕ, _≤_, _-_}
 use mathlib.Core.Path.{_≡_}
 use mathlib.Core.List.{List, map}
 use native.Mathlib.Omega.{arith}
+use Rattle.definition.specs.Limits.{mostIdentifiers}
 use Rattle.arrays.specs.Listed.{Listed}
 use Rattle.definition.specs.Records.{Rec}
 use Rattle.definition.specs.Tree.{Node}
@@ -12,13 +13,13 @@ use Rattle.queue.proofs.first_urgent.Statement.{statement}
 use Rattle.queue.proofs.first_urgent.Tie as tie
 
 abbrev Inv-loop : tie.InvT-loop
-Inv-loop classes n class i₀ i = (i ≤ n) × ((rs : List Rec) (ns : List Node) (q : List ℕ) → Listed (map (D.getNodePriority rs ns) q) n classes → n ≤ 512 → fromPlace rs ns q class i ≡ D.pop rs ns q)
+Inv-loop classes n class i₀ i = (i ≤ n) × ((rs : List Rec) (ns : List Node) (q : List ℕ) → Listed (map (D.getNodePriority rs ns) q) n classes → n ≤ mostIdentifiers → fromPlace rs ns q class i ≡ D.pop rs ns q)
 
 abbrev μ-loop : tie.MeasureT-loop
 μ-loop classes n class i₀ i = n - i
 
 abbrev Inv-classes : tie.InvT-classes
-Inv-classes classes n class₀ class = (class ≤ 3) × ((rs : List Rec) (ns : List Node) (q : List ℕ) → Listed (map (D.getNodePriority rs ns) q) n classes → n ≤ 512 → fromClass rs ns q class ≡ D.pop rs ns q)
+Inv-classes classes n class₀ class = (class ≤ 3) × ((rs : List Rec) (ns : List Node) (q : List ℕ) → Listed (map (D.getNodePriority rs ns) q) n classes → n ≤ mostIdentifiers → fromClass rs ns q class ≡ D.pop rs ns q)
 
 abbrev μ-classes : tie.MeasureT-classes
 μ-classes classes n class₀ class = 3 - class

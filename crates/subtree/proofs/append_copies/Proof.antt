@@ -2,6 +2,7 @@ use Prim.Native.Nat.{ℕ, _≤_, _-_}
 use mathlib.Core.List.{List}
 use lib.ListN.{length, drop}
 use native.Mathlib.Omega.{arith}
+use Rattle.definition.specs.Limits.{mostIdentifiers}
 use Rattle.arrays.specs.Listed.{Listed}
 use Rattle.arrays.proofs.Listed.{listed-count}
 use Rattle.definition.specs.Tree.{Node}
@@ -14,7 +15,7 @@ use Rattle.subtree.proofs.append_copies.Statement.{statement}
 use Rattle.subtree.proofs.append_copies.Tie as tie
 
 abbrev Inv-loop : tie.InvT-loop
-Inv-loop tree₀ len leaves m from s wait₀ n here₀ k₀ tree wait here k = (ns : List Node) (q ls : List ℕ) → Held ns len tree₀ → (len ≤ 512 → Listed q n wait₀) → Within s (length ns) → Listed ls m leaves → m ≤ 512 → Copying (appendCopies ns q (drop from ls) (subtreeOf s)) s (drop k ls) (length ns) here tree wait
+Inv-loop tree₀ len leaves m from s wait₀ n here₀ k₀ tree wait here k = (ns : List Node) (q ls : List ℕ) → Held ns len tree₀ → (len ≤ mostIdentifiers → Listed q n wait₀) → Within s (length ns) → Listed ls m leaves → m ≤ mostIdentifiers → Copying (appendCopies ns q (drop from ls) (subtreeOf s)) s (drop k ls) (length ns) here tree wait
 
 abbrev μ-loop : tie.MeasureT-loop
 μ-loop tree₀ len leaves m from s wait₀ n here₀ k₀ tree wait here k = m - k

@@ -2,6 +2,7 @@ use Prim.Native.Nat.{ℕ, _≤_, _-_}
 use mathlib.Core.List.{List, map}
 use lib.ListN.{length, drop}
 use native.Mathlib.Omega.{arith}
+use Rattle.definition.specs.Limits.{mostIdentifiers}
 use Rattle.arrays.specs.Listed.{Listed}
 use Rattle.definition.specs.Tree.{Node}
 use Rattle.definition.specs.Subtree.{appendLogicRuleResult}
@@ -14,7 +15,7 @@ use Rattle.subtree.proofs.append_logic_rule_result.Statement.{statement
 use Rattle.subtree.proofs.append_logic_rule_result.Tie as tie
 
 abbrev Inv-loop : tie.InvT-loop
-Inv-loop tree₀ len items count wait₀ n here₀ k₀ tree wait here k = (ns : List Node) (q : List ℕ) (rs : List Row) → Held ns len tree₀ → (len ≤ 512 → Listed q n wait₀) → (len ≤ 512 → Rows rs count items (length ns)) → Steady ns q (map itemFrom rs) → Joining (appendLogicRuleResult ns q (map itemFrom rs)) (drop k (filled rs)) (length ns) here tree wait
+Inv-loop tree₀ len items count wait₀ n here₀ k₀ tree wait here k = (ns : List Node) (q : List ℕ) (rs : List Row) → Held ns len tree₀ → (len ≤ mostIdentifiers → Listed q n wait₀) → (len ≤ mostIdentifiers → Rows rs count items (length ns)) → Steady ns q (map itemFrom rs) → Joining (appendLogicRuleResult ns q (map itemFrom rs)) (drop k (filled rs)) (length ns) here tree wait
 
 abbrev μ-loop : tie.MeasureT-loop
 μ-loop tree₀ len items count wait₀ n here₀ k₀ tree wait here k = count - k

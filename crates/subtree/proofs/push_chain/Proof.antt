@@ -1,6 +1,7 @@
 use Prim.Native.Nat.{ℕ, _≤_, _-_}
 use mathlib.Core.List.{List, _++_}
 use lib.ListN.{take}
+use Rattle.definition.specs.Limits.{mostIdentifiers}
 use Rattle.arrays.specs.Listed.{Listed}
 use Rattle.tree.specs.Chain.{chainOf, Below}
 use Rattle.subtree.proofs.Chains.{pushing-start, pushing-next, pushing-end}
@@ -9,7 +10,7 @@ use Rattle.subtree.proofs.push_chain.Statement.{statement}
 use Rattle.subtree.proofs.push_chain.Tie as tie
 
 abbrev Inv-loop : tie.InvT-loop
-Inv-loop out₀ start c n m₀ k₀ out m k = (k ≤ n) × ((q : List ℕ) → Listed q start out₀ → Below c 512 → Listed (q ++ take k (chainOf c)) m out)
+Inv-loop out₀ start c n m₀ k₀ out m k = (k ≤ n) × ((q : List ℕ) → Listed q start out₀ → Below c mostIdentifiers → Listed (q ++ take k (chainOf c)) m out)
 
 abbrev μ-loop : tie.MeasureT-loop
 μ-loop out₀ start c n m₀ k₀ out m k = n - k

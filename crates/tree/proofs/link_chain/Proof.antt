@@ -3,6 +3,7 @@ use Prim.Native.Nat.{_≤_, _-_}
 use mathlib.Core.Path.{_≡_}
 use mathlib.Core.List.{List}
 use lib.ListN.{length, drop}
+use Rattle.definition.specs.Limits.{mostIdentifiers}
 use Rattle.definition.specs.Tree.{Node, Place, linkChain}
 use Rattle.tree.specs.Lay.{placeCode, Held}
 use Rattle.tree.specs.Chain.{chainOf, Below}
@@ -11,7 +12,7 @@ use Rattle.tree.proofs.link_chain.Statement.{statement}
 use Rattle.tree.proofs.link_chain.Tie as tie
 
 abbrev Inv-loop : tie.InvT-loop
-Inv-loop tree₀ len place c n above₀ at₀ k₀ tree above at k = (k ≤ n) × ((ns : List Node) (p : Place) → placeCode p ≡ place → Held ns len tree₀ → (length ns ≤ 512 → Below c (length ns)) → Linking (linkChain ns (above₀ .0) p (chainOf c)) len tree (above .0) at (drop k (chainOf c)))
+Inv-loop tree₀ len place c n above₀ at₀ k₀ tree above at k = (k ≤ n) × ((ns : List Node) (p : Place) → placeCode p ≡ place → Held ns len tree₀ → (length ns ≤ mostIdentifiers → Below c (length ns)) → Linking (linkChain ns (above₀ .0) p (chainOf c)) len tree (above .0) at (drop k (chainOf c)))
 
 abbrev μ-loop : tie.MeasureT-loop
 μ-loop tree₀ len place c n above₀ at₀ k₀ tree above at k = n - k

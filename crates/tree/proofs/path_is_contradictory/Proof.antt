@@ -4,6 +4,7 @@ use mathlib.Core.Path.{_≡_}
 use mathlib.Core.List.{List}
 use native.Mathlib.Omega.{arith}
 use lib.ListN.{length}
+use Rattle.definition.specs.Limits.{mostIdentifiers}
 use Rattle.definition.specs.Lists.{any}
 use Rattle.definition.specs.Tree.{Node, nodeAt, isContradictory, upward, path}
 use Rattle.tree.specs.Lay.{lay}
@@ -12,7 +13,7 @@ use Rattle.tree.proofs.path_is_contradictory.Statement.{statement}
 use Rattle.tree.proofs.path_is_contradictory.Tie as tie
 
 abbrev Inv-loop : tie.InvT-loop
-Inv-loop tree len cur₀ k₀ cur k = (k ≤ len) × ((ns : List Node) → length ns ≡ len → len ≤ 512 → tree ≡ lay ns → any (λ x. isContradictory (nodeAt ns x)) (upward (len - k) ns (cur .0)) ≡ any (λ x. isContradictory (nodeAt ns x)) (path ns (cur₀ .0)))
+Inv-loop tree len cur₀ k₀ cur k = (k ≤ len) × ((ns : List Node) → length ns ≡ len → len ≤ mostIdentifiers → tree ≡ lay ns → any (λ x. isContradictory (nodeAt ns x)) (upward (len - k) ns (cur .0)) ≡ any (λ x. isContradictory (nodeAt ns x)) (path ns (cur₀ .0)))
 
 abbrev μ-loop : tie.MeasureT-loop
 μ-loop tree len cur₀ k₀ cur k = len - k

@@ -2,6 +2,7 @@ use borrow.Author.Needs.{needs}
 use Prim.Native.Nat.{_-_, _*_, _≤_}
 use mathlib.Core.Path.{_≡_, _∙_}
 use native.Mathlib.Omega.{arith}
+use Rattle.definition.specs.Limits.{graphWidth}
 use Rattle.definition.specs.Graph.{Graph, edge}
 use Rattle.graph.specs.Drawn.{grid, Drawn}
 use Rattle.graph.proofs.Scan.{scanned, scan-start, scan-next, scan-end}
@@ -12,10 +13,10 @@ use Rattle.graph.proofs.missing_vertices.add_missing_reflexive_vertices
 use Rattle.graph.proofs.missing_vertices.add_missing_reflexive_vertices.Tie as tie
 
 abbrev Inv-loop : tie.InvT-loop
-Inv-loop edges₀ worlds n₀ edges n = (n ≤ worlds * 25) × ((g : Graph) → Drawn g worlds edges₀ → edges ≡ grid (scanned (edge g) (reflexives worlds) n))
+Inv-loop edges₀ worlds n₀ edges n = (n ≤ worlds * graphWidth) × ((g : Graph) → Drawn g worlds edges₀ → edges ≡ grid (scanned (edge g) (reflexives worlds) n))
 
 abbrev μ-loop : tie.MeasureT-loop
-μ-loop edges₀ worlds n₀ edges n = worlds * 25 - n
+μ-loop edges₀ worlds n₀ edges n = worlds * graphWidth - n
 
 returns : tie.Need-returns Inv-loop μ-loop
 returns c = λ g d. absurd (omega (arith, c .if1 .taken, d .room))

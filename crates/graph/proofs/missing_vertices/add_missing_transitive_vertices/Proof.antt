@@ -3,6 +3,7 @@ use Prim.Native.Nat.{_-_, _*_, _≤_}
 use mathlib.Core.Path.{_≡_, _∙_}
 use mathlib.Core.Logic.{inl}
 use native.Mathlib.Omega.{arith}
+use Rattle.definition.specs.Limits.{graphWidth}
 use Rattle.definition.specs.Graph.{Graph, edge}
 use Rattle.graph.specs.Drawn.{grid, Drawn}
 use Rattle.graph.proofs.Scan.{scanned, scan-start, scan-next, scan-end}
@@ -13,10 +14,10 @@ use Rattle.graph.proofs.missing_vertices.add_missing_transitive_vertice
 use Rattle.graph.proofs.missing_vertices.add_missing_transitive_vertices.Tie as tie
 
 abbrev Inv-loop : tie.InvT-loop
-Inv-loop edges₀ worlds stood n₀ edges n = (n ≤ worlds * 25) × ((g : Graph) → Drawn g worlds edges₀ → edges ≡ grid (scanned (edge g) (transitives g) n))
+Inv-loop edges₀ worlds stood n₀ edges n = (n ≤ worlds * graphWidth) × ((g : Graph) → Drawn g worlds edges₀ → edges ≡ grid (scanned (edge g) (transitives g) n))
 
 abbrev μ-loop : tie.MeasureT-loop
-μ-loop edges₀ worlds stood n₀ edges n = worlds * 25 - n
+μ-loop edges₀ worlds stood n₀ edges n = worlds * graphWidth - n
 
 returns : tie.Need-returns Inv-loop μ-loop
 returns c = λ g d. absurd (omega (arith, c .if1 .taken, d .room))
