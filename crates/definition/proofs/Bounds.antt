@@ -11,7 +11,7 @@ use lib.ListN.{length, length-append}
 use Rattle.definition.specs.Limits.{mostRecords, mostIdentifiers, worldLimit, mostFormulas}
 use Rattle.definition.specs.Lists.{Each, empty, filter, elem}
 use Rattle.definition.specs.Records.{Rec, nobody, numberOf, marks}
-use Rattle.definition.specs.Flags.{Flags}
+use Rattle.definition.specs.Setting.{Setting}
 use Rattle.definition.specs.Graph.{Graph, edge, emptyGraph, initializeGraphIfNeeded, fork}
 use Rattle.definition.specs.Tree.{Node, newNode, nodeAt, leaves, path}
 use Rattle.definition.specs.Rules.{Rule, nothing, down, split, asPossible, asNecessary, expansion}
@@ -57,7 +57,7 @@ NecessityFits m n k = (k .formula < m) × (k .spawner < n)
 -- P holds of every record of the branch, and of every record whose numbers fit
 module _ (P : Rec → Type 0) (ok : (r : Rec) → RecordFits r → P r) where
   -- what a run over k records keeps, while it is not full
-  pub record Sizes (F : Flags) (k : ℕ) (s : State) : Type 0 where
+  pub record Sizes (F : Setting) (k : ℕ) (s : State) : Type 0 where
     pub wf : WellFormed (s .formulas)
     pub formulas : length (s .formulas) ≤ k + (s .steps + s .steps)
     pub records : Each P (s .formulas)
@@ -67,20 +67,20 @@ module _ (P : Rec → Type 0) (ok : (r : Rec) → RecordFits r → P r) where
     pub necessities : Each (NecessityFits (length (s .formulas)) (length (s .nodes))) (s .necessities)
 
   -- with its counts
-  pub record Bounded (F : Flags) (k : ℕ) (s : State) : Type 0 where
+  pub record Bounded (F : Setting) (k : ℕ) (s : State) : Type 0 where
     pub counted : Counted s
     pub known : Known (s .nodes) (s .waiting)
     pub sizes : Sizes F k s
 
   -- what a rule's result has: more is the number of formulas with those made
-  record ResultFits (F : Flags) (more n : ℕ) (g : Graph) (r : LogicRuleResult) : Type 0 where
+  record ResultFits (F : Setting) (more n : ℕ) (g : Graph) (r : LogicRuleResult) : Type 0 where
     squared : Squared (r .graph)
     worlds : r .graph .worlds ≤ worldLimit
     wider : initializeGraphIfNeeded F g .worlds ≤ initializeGraphIfNeeded F (r .graph) .worlds
     labels : Each (λ (m : Node). LabelFits (initializeGraphIfNeeded F (r .graph) .worlds) more n (label m)) (r .nodes)
     necessities : Each (NecessityFits more n) (r .necessities)
 
-  module _ (F : Flags) (k : ℕ) (s : State) (h : Sizes F k s) (few : s .graph .worlds < worldLimit) (x : ℕ) (hx : x < length (s .nodes)) (more : List Rec) where
+  module _ (F : Setting) (k : ℕ) (s : State) (h : Sizes F k s) (few : s .graph .worlds < worldLimit) (x : ℕ) (hx : x < length (s .nodes)) (more : List Rec) where
     abbrev t : List Node
     t = s .nodes
 
@@ -163,7 +163,7 @@ module _ (P : Rec → Type 0) (ok : (r : Rec) → RecordFits r → P r) where
         }
 
   -- the check for contradictions changes no label
-  sizes-checked : (F : Flags) (k : ℕ) (s : State) → Sizes F k s → Sizes F k (checkForContradictions F s)
+  sizes-checked : (F : Setting) (k : ℕ) (s : State) → Sizes F k s → Sizes F k (checkForContradictions F s)
   unfolding checkedForContradictions
   sizes-checked F k s h =
       let found = pairs (s .formulas) (s .nodes) (leaves (s .nodes)) in
@@ -181,11 +181,11 @@ module _ (P : Rec → Type 0) (ok : (r : Rec) → RecordFits r → P r) where
       })
 
   -- not full, so that the formulas are few
-  few-formulas : (F : Flags) (k : ℕ) (s : State) → Bounded F k s → full s ≡ false → length (s .formulas) ≤ k + (mostIdentifiers + mostIdentifiers)
+  few-formulas : (F : Setting) (k : ℕ) (s : State) → Bounded F k s → full s ≡ false → length (s .formulas) ≤ k + (mostIdentifiers + mostIdentifiers)
   unfolding full Counted
   few-formulas F k s h e = omega (arith, h .sizes .formulas, h .counted, ltb-false mostIdentifiers (length (s .nodes)) e)
 
-  rule-made : (F : Flags) (s : State) (x : ℕ) (more : List Rec) (r : Rule ℕ) → applyRule F s x more r .formulas ≡ more
+  rule-made : (F : Setting) (s : State) (x : ℕ) (more : List Rec) (r : Rule ℕ) → applyRule F s x more r .formulas ≡ more
   unfolding applyRule applyHere applyPossibility applyNecessity
   rule-made F s x more nothing = refl
   rule-made F s x more (down fs) = refl
@@ -194,12 +194,12 @@ module _ (P : Rec → Type 0) (ok : (r : Rec) → RecordFits r → P r) where
   rule-made F s x more (asNecessary f) = refl
 
   -- a rule's result has the formulas that its expansion makes
-  pub apply-made : (F : Flags) (s : State) (x : ℕ) → apply F s x .formulas ≡ expansion (s .formulas) (nodeAt (s .nodes) x .formula) .made
+  pub apply-made : (F : Setting) (s : State) (x : ℕ) → apply F s x .formulas ≡ expansion (s .formulas) (nodeAt (s .nodes) x .formula) .made
   unfolding apply
   apply-made F s x = rule-made F s x _ _
 
   -- all but the counts, which the step as a whole has
-  sizes-appended : (F : Flags) (k : ℕ) (s : State) (p : Popped) → k ≤ mostRecords → Bounded F k s → s .graph .worlds < worldLimit → full s ≡ false → p .node < length (s .nodes) →
+  sizes-appended : (F : Setting) (k : ℕ) (s : State) (p : Popped) → k ≤ mostRecords → Bounded F k s → s .graph .worlds < worldLimit → full s ≡ false → p .node < length (s .nodes) →
       Sizes F k (appended F s p)
   unfolding appended apply
   sizes-appended F k s p small h few e hx =
@@ -236,12 +236,12 @@ module _ (P : Rec → Type 0) (ok : (r : Rec) → RecordFits r → P r) where
         necessities = each-map (λ (a : Necessity) (q : NecessityFits m n a). (q .0, omega (arith, q .1, lt, lu))) (r .necessities) (fits .necessities);
       })
 
-  pub bounded-step : (F : Flags) (k : ℕ) (s : State) → k ≤ mostRecords → stops s ≡ false → Bounded F k s → Bounded F k (step F s)
+  pub bounded-step : (F : Setting) (k : ℕ) (s : State) → k ≤ mostRecords → stops F s ≡ false → Bounded F k s → Bounded F k (step F s)
   unfolding stops ended step stepBy
-  bounded-step F k s small e h = go (pop (s .formulas) (s .nodes) (s .waiting)) (pop-out (λ x. x < length (s .nodes)) (s .formulas) (s .nodes) (s .waiting)) (due F s busy (h .counted)) (known-step F s (h .known))
+  bounded-step F k s small e h = go (pop F (s .formulas) (s .nodes) (s .waiting)) (pop-out (λ x. x < length (s .nodes)) F (s .formulas) (s .nodes) (s .waiting)) (due F s busy (h .counted)) (known-step F s (h .known))
     where
-      busy : ended s ≡ false
-      busy = or-left (ended s) (full s) e
+      busy : ended F s ≡ false
+      busy = or-left (ended F s) (full s) e
 
       few : s .graph .worlds < worldLimit
       few = leb-false worldLimit (s .graph .worlds) (or-right (empty (s .waiting)) _ (or-right (s .proved) _ busy))
@@ -250,18 +250,18 @@ module _ (P : Rec → Type 0) (ok : (r : Rec) → RecordFits r → P r) where
           Bounded F k (stepBy F s o)
       go none q c w = h
       go (some p) q c w =
-          record { counted = c .0; known = w; sizes = sizes-checked F k (appended F s p) (sizes-appended F k s p small h few (or-right (ended s) (full s) e) (q .1 (h .known) .0)) }
+          record { counted = c .0; known = w; sizes = sizes-checked F k (appended F s p) (sizes-appended F k s p small h few (or-right (ended F s) (full s) e) (q .1 (h .known) .0)) }
 
-  bounded-run : (F : Flags) (k n : ℕ) (s : State) → k ≤ mostRecords → Bounded F k s → Bounded F k (run n F s)
+  bounded-run : (F : Setting) (k n : ℕ) (s : State) → k ≤ mostRecords → Bounded F k s → Bounded F k (run n F s)
   unfolding steps
   bounded-run F k zero s small h = h
-  bounded-run F k (suc n) s small h = go (stops s) refl (bounded-run F k n (step F s) small)
+  bounded-run F k (suc n) s small h = go (stops F s) refl (bounded-run F k n (step F s) small)
     where
-      go : (b : Bool) → stops s ≡ b → (Bounded F k (step F s) → Bounded F k (run n F (step F s))) → Bounded F k (cond b s (run n F (step F s)))
+      go : (b : Bool) → stops F s ≡ b → (Bounded F k (step F s) → Bounded F k (run n F (step F s))) → Bounded F k (cond b s (run n F (step F s)))
       go true e f = h
       go false e f = f (bounded-step F k s small e h)
 
-  sizes-begun : (F : Flags) (rs : List Rec) → WellFormed rs → Each P rs → Sizes F (length rs) (begun rs)
+  sizes-begun : (F : Setting) (rs : List Rec) → WellFormed rs → Each P rs → Sizes F (length rs) (begun rs)
   unfolding begun branchNodes emptyGraph
   sizes-begun F rs wf fit =
       let ns = branchNodes rs in
@@ -279,16 +279,16 @@ module _ (P : Rec → Type 0) (ok : (r : Rec) → RecordFits r → P r) where
       }
 
   -- every state of the run
-  pub run-bounded : (F : Flags) (rs : List Rec) (n : ℕ) → length rs ≤ mostRecords → WellFormed rs → Each P rs → Bounded F (length rs) (run n F (start F rs))
+  pub run-bounded : (F : Setting) (rs : List Rec) (n : ℕ) → length rs ≤ mostRecords → WellFormed rs → Each P rs → Bounded F (length rs) (run n F (start F rs))
   unfolding start
   run-bounded F rs n small wf fit =
       bounded-run F (length rs) n (start F rs) small
       (record { counted = start-counted F rs; known = known-start F rs; sizes = sizes-checked F (length rs) (begun rs) (sizes-begun F rs wf fit) })
 
   -- the input and two for each step: no more formulas than the tray holds
-  pub bounded-formulas : (F : Flags) (k : ℕ) (s : State) → Bounded F k s → k ≤ mostRecords → full s ≡ false → length (s .formulas) ≤ mostFormulas
+  pub bounded-formulas : (F : Setting) (k : ℕ) (s : State) → Bounded F k s → k ≤ mostRecords → full s ≡ false → length (s .formulas) ≤ mostFormulas
   bounded-formulas F k s h small e = omega (arith, few-formulas F k s h e)
 
-  pub bounded-steps : (F : Flags) (k : ℕ) (s : State) → Bounded F k s → full s ≡ false → s .steps ≤ mostIdentifiers
+  pub bounded-steps : (F : Setting) (k : ℕ) (s : State) → Bounded F k s → full s ≡ false → s .steps ≤ mostIdentifiers
   unfolding full Counted
   bounded-steps F k s h e = omega (arith, h .counted, ltb-false mostIdentifiers (length (s .nodes)) e)

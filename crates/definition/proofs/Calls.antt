@@ -11,7 +11,7 @@ use lib.ListN.{length, getD}
 use Rattle.definition.specs.Limits.{mostIdentifiers}
 use Rattle.definition.specs.Lists.{Each, below}
 use Rattle.definition.specs.Records.{Rec, Unknown, numberOf, recordAt, decode, made, recAt}
-use Rattle.definition.specs.Flags.{Flags, flagsOf}
+use Rattle.definition.specs.Setting.{Setting, settingOf}
 use Rattle.definition.specs.Checks.{Lengths, LongEnough, Check, refused}
 use Rattle.definition.specs.Run.{State, full, stops, run, start, Passes, final}
 use Rattle.definition.specs.Trays.{Trays, rowNumber, traysOf, zeroTrays, laidOver}
@@ -32,12 +32,12 @@ long-outcome branch flags a b h k = ap (outcomeBy branch flags) (long-alike bran
 
 -- an outcome that ended comes of a branch that no check refused, and is not full
 pub ended-of : (branch : List ℕ) (flags : ℕ) (lent : Lengths) (s : State) → outcome branch flags lent ≡ Ended s →
-    Accepted branch flags lent × (full (final (flagsOf flags) (decode branch)) ≡ false) × (final (flagsOf flags) (decode branch) ≡ s)
+    Accepted branch flags lent × (full (final (settingOf flags) (decode branch)) ≡ false) × (final (settingOf flags) (decode branch) ≡ s)
 unfolding outcome outcomeBy outcomeOfRun
 ended-of branch flags lent s e = go (refused branch flags lent) refl e
   where
     z : State
-    z = final (flagsOf flags) (decode branch)
+    z = final (settingOf flags) (decode branch)
 
     ran : (b : Bool) → full z ≡ b → cond b Full (Ended z) ≡ Ended s → (full z ≡ false) × (z ≡ s)
     ran true q d = let o : _≡_ {A = ℕ} 0 1 = cc in absurd (omega arith)
@@ -76,15 +76,15 @@ row-low (b ∷ bs) = let e : 2 ^ suc (length bs) ≡ 2 ^ length bs * 2 = pow-suc
     bit-low true = omega arith
     bit-low false = omega arith
 
-module _ (branch : List ℕ) (flags : ℕ) (lent : Lengths) (a : Accepted branch flags lent) (e : full (final (flagsOf flags) (decode branch)) ≡ false) where
-  abbrev F : Flags
-  F = flagsOf flags
+module _ (branch : List ℕ) (flags : ℕ) (lent : Lengths) (a : Accepted branch flags lent) (e : full (final (settingOf flags) (decode branch)) ≡ false) where
+  abbrev F : Setting
+  F = settingOf flags
 
   abbrev rs : List Rec
   rs = decode branch
 
   abbrev z : State
-  z = final (flagsOf flags) (decode branch)
+  z = final (settingOf flags) (decode branch)
 
   pub final-bounded : (P : Rec → Type 0) (ok : (r : Rec) → RecordFits r → P r) → Each P rs → Bounded P ok F (length rs) z
   unfolding final
@@ -102,10 +102,10 @@ module _ (branch : List ℕ) (flags : ℕ) (lent : Lengths) (a : Accepted branch
       trays-sized z (not-full z e) (bounded-formulas P (λ r k. tt) F (length rs) z h (a .few) e) (omega (arith, h .sizes .squared .rows, h .sizes .worlds))
 
 -- at every state of the run of an accepted branch, the links of each record are to earlier ones
-pub run-linked : (branch : List ℕ) (flags : ℕ) (lent : Lengths) → Accepted branch flags lent → (n : ℕ) → WellFormed (run n (flagsOf flags) (start (flagsOf flags) (decode branch)) .formulas)
+pub run-linked : (branch : List ℕ) (flags : ℕ) (lent : Lengths) → Accepted branch flags lent → (n : ℕ) → WellFormed (run n (settingOf flags) (start (settingOf flags) (decode branch)) .formulas)
 run-linked branch flags lent a n =
     let P : Rec → Type 0 = λ r. Unit {0} in
-    run-bounded P (λ r k. tt) (flagsOf flags) (decode branch) n (a .few) (λ i l. a .records i l .links) (each-any P (λ r. tt) (decode branch)) .sizes .wf
+    run-bounded P (λ r k. tt) (settingOf flags) (decode branch) n (a .few) (λ i l. a .records i l .links) (each-any P (λ r. tt) (decode branch)) .sizes .wf
 
 -- every call keeps each tray's length, and what lies beyond what it writes
 pub trays-kept : (branch : List ℕ) (flags : ℕ) (lent : Trays) → Kept lent (traysLeft branch flags lent)
@@ -113,7 +113,7 @@ unfolding traysLeft traysAfter outcome outcomeBy outcomeOfRun
 trays-kept branch flags lent = go (refused branch flags (lengthsOf lent)) refl
   where
     y : State
-    y = final (flagsOf flags) (decode branch)
+    y = final (settingOf flags) (decode branch)
 
     run : Accepted branch flags (lengthsOf lent) → (b : Bool) → full y ≡ b → Kept lent (traysAfter (cond b Full (Ended y)) lent)
     run a true q = laid-kept zeroTrays lent zero-sized (a .trays)
@@ -126,17 +126,17 @@ trays-kept branch flags lent = go (refused branch flags (lengthsOf lent)) refl
 -- the call answers 12 exactly if no check applies and the run is full, and then zeroes the trays
 module _ (branch : List ℕ) (flags : ℕ) (lent : Trays) where
   abbrev y : State
-  y = final (flagsOf flags) (decode branch)
+  y = final (settingOf flags) (decode branch)
 
   twelve-full : (place : ℕ) → answer branch flags lent ≡ refusal 12 place → (refused branch flags (lengthsOf lent) ≡ none) × (full y ≡ true)
   unfolding answer outcome outcomeBy outcomeOfRun answerOf
   twelve-full place = go (refused branch flags (lengthsOf lent)) refl
     where
-      ran : (b : Bool) → full y ≡ b → answerOf (cond b Full (Ended y)) ≡ refusal 12 place → full y ≡ true
+      ran : (b : Bool) → full y ≡ b → answerOf (settingOf flags) (cond b Full (Ended y)) ≡ refusal 12 place → full y ≡ true
       ran true q a = q
       ran false q a = let o : _≡_ {A = ℕ} 0 1 = cc in absurd (omega arith)
 
-      go : (o : Option Check) → refused branch flags (lengthsOf lent) ≡ o → answerOf (outcomeBy branch flags o) ≡ refusal 12 place → (refused branch flags (lengthsOf lent) ≡ none) × (full y ≡ true)
+      go : (o : Option Check) → refused branch flags (lengthsOf lent) ≡ o → answerOf (settingOf flags) (outcomeBy branch flags o) ≡ refusal 12 place → (refused branch flags (lengthsOf lent) ≡ none) × (full y ≡ true)
       go (some c) q a = let d : c .number ≡ 12 = cc in absurd (omega (arith, d, refused-low branch flags (lengthsOf lent) c q))
       go none q a = (q, ran (full y) refl a)
 
@@ -144,11 +144,11 @@ module _ (branch : List ℕ) (flags : ℕ) (lent : Trays) where
   unfolding outcome outcomeBy outcomeOfRun
   full-outcome e f = rw (e, f) refl
 
-  pub twelve-exactly : (answer branch flags lent ≡ refusal 12 0) ↔ ((refused branch flags (lengthsOf lent) ≡ none) × Passes (flagsOf flags) (decode branch))
+  pub twelve-exactly : (answer branch flags lent ≡ refusal 12 0) ↔ ((refused branch flags (lengthsOf lent) ≡ none) × Passes (settingOf flags) (decode branch))
   unfolding answer answerOf
   twelve-exactly =
-      let k = full-exactly (flagsOf flags) (decode branch) in
-      (λ a. let h = twelve-full 0 a in (h .0, k .0 (h .1)), λ p. ap answerOf (full-outcome (p .0) (k .1 (p .1))))
+      let k = full-exactly (settingOf flags) (decode branch) in
+      (λ a. let h = twelve-full 0 a in (h .0, k .0 (h .1)), λ p. ap (answerOf (settingOf flags)) (full-outcome (p .0) (k .1 (p .1))))
 
   pub twelve-zeroes : (place : ℕ) → answer branch flags lent ≡ refusal 12 place → traysLeft branch flags lent ≡ laidOver zeroTrays lent
   unfolding traysLeft traysAfter

@@ -7,7 +7,8 @@ use Rattle.definition.specs.Limits.{PaperLengths}
 use Rattle.definition.specs.Records
 use Rattle.definition.specs.Checks
 use Rattle.definition.specs.Checks.{Lengths, LongEnough}
-use Rattle.definition.specs.Flags
+use Rattle.definition.specs.Setting
+use Rattle.definition.specs.Setting.{settingOf}
 use Rattle.definition.specs.Graph
 use Rattle.definition.specs.Tree
 use Rattle.definition.specs.Rules
@@ -28,7 +29,7 @@ use Rattle.definition.proofs.Calls.{long-outcome}
 -- the outcome; to unfold this is to unfold the whole definition of a call
 unfoldable pub computed : List ℕ → ℕ → Lengths → Outcome
 unfolding
-    outcome Call.outcomeBy Call.outcomeOfRun Flags.flagsOf
+    outcome Call.outcomeBy Call.outcomeOfRun Setting.settingOf
     Records.kindOf Records.numberOf Records.arity Records.recordAt Records.decode Records.recAt Records.formulaOf Records.marksFrom
     Checks.expandedSize Checks.nonZeroField Checks.recordChecks Checks.checks Checks.refused
     Graph.edge Graph.graphOf Graph.emptyGraph Graph.addMissingReflexiveVertices Graph.addMissingSymmetricVertices Graph.paired Graph.addMissingTransitiveVertices Graph.addMissingGraphVertices Graph.initializeGraphIfNeeded Graph.fork Graph.reached
@@ -52,15 +53,15 @@ exactly-long = record { nodes = omega arith; formulas = omega arith; edges = ome
 same-outcome : (branch : List ℕ) (flags : ℕ) (lent : Lengths) → LongEnough lent → outcome branch flags lent ≡ computed branch flags exactly
 same-outcome branch flags lent h = long-outcome branch flags lent exactly h exactly-long ∙ is-computed branch flags exactly
 
-pub same-answer : (branch : List ℕ) (flags : ℕ) (lent : Trays) → LongEnough (lengthsOf lent) → answer branch flags lent ≡ answerOf (computed branch flags exactly)
+pub same-answer : (branch : List ℕ) (flags : ℕ) (lent : Trays) → LongEnough (lengthsOf lent) → answer branch flags lent ≡ answerOf (settingOf flags) (computed branch flags exactly)
 unfolding answer
-same-answer branch flags lent h = ap answerOf (same-outcome branch flags (lengthsOf lent) h)
+same-answer branch flags lent h = ap (answerOf (settingOf flags)) (same-outcome branch flags (lengthsOf lent) h)
 
 map-same : {A B : Type 0} (f g : A → B) → ((x : A) → f x ≡ g x) → (xs : List A) → map f xs ≡ map g xs
 map-same f g h [] = refl
 map-same f g h (x ∷ xs) = ap₂ (λ (b : _) (bs : List _). b ∷ bs) (h x) (map-same f g h xs)
 
-starred-answers : map (λ (c : Case). answerOf (computed (bytes (c .records)) (c .flags) exactly)) table ≡ map (λ (c : Case). c .answered) table
+starred-answers : map (λ (c : Case). answerOf (settingOf (c .flags)) (computed (bytes (c .records)) (c .flags) exactly)) table ≡ map (λ (c : Case). c .answered) table
 unfolding computed answerOf late
 starred-answers = refl
 

@@ -11,7 +11,7 @@ use borrow.Author.Tests.{eqb-false, leb-true}
 use lib.ListN.{length, getD, length-append, length-map, length-reverse}
 use Rattle.definition.specs.Lists.{Each, all, empty, orElse, upFrom, below, filter}
 use Rattle.definition.specs.Records.{Rec, Non, is, numberOf, recAt, formulaOf, nobody}
-use Rattle.definition.specs.Flags.{Flags}
+use Rattle.definition.specs.Setting.{Setting}
 use Rattle.definition.specs.Tree.{Node, Root, Middle, nodeAt, placedBelow, leaves}
 use Rattle.definition.specs.Subtree.{Subtree, Targeted, flat, turned, numbered, copied, pushSubtree, appendSubtreeOnLeaf, appendCopies, appendOn, takes, appendSubtree, appendLogicRuleResult}
 use Rattle.definition.specs.Queue.{classes, priorities, prioritiesOfNon, priorityOf, getNodePriority, Popped, popFirst, popClass, pop}
@@ -124,15 +124,15 @@ first-taken p (x ∷ xs) before =
     cond-both (IfTaken (before ++ (x ∷ xs))) (p x) (some (record { node = x; others = before ++ xs })) _ (record { before = before; after = xs; was = refl; left = refl })
     (rw (append-assoc before (x ∷ []) xs) at (first-taken p xs (before ++ (x ∷ []))))
 
-class-taken : (rs : List Rec) (t : List Node) (q cs : List ℕ) → IfTaken q (popClass rs t q cs)
+class-taken : (F : Setting) (rs : List Rec) (t : List Node) (q cs : List ℕ) → IfTaken q (popClass F rs t q cs)
 unfolding popClass
-class-taken rs t q [] = tt
-class-taken rs t q (c ∷ cs) =
-    (elim (popFirst (λ x. eqb (getNodePriority rs t x) c) [] q) as (λ o. IfTaken q o → IfTaken q (orElse o (popClass rs t q cs))) [ none ↦ λ h. class-taken rs t q cs | some p ↦ λ h. h ]) (first-taken _ q [])
+class-taken F rs t q [] = tt
+class-taken F rs t q (c ∷ cs) =
+    (elim (popFirst (λ x. eqb (getNodePriority F rs t x) c) [] q) as (λ o. IfTaken q o → IfTaken q (orElse o (popClass F rs t q cs))) [ none ↦ λ h. class-taken F rs t q cs | some p ↦ λ h. h ]) (first-taken _ q [])
 
-pub pop-taken : (rs : List Rec) (t : List Node) (q : List ℕ) (p : Popped) → pop rs t q ≡ some p → Taken q p
+pub pop-taken : (F : Setting) (rs : List Rec) (t : List Node) (q : List ℕ) (p : Popped) → pop F rs t q ≡ some p → Taken q p
 unfolding pop
-pop-taken rs t q p e = rw e at (class-taken rs t q classes)
+pop-taken F rs t q p e = rw e at (class-taken F rs t q classes)
 
 -- so what held of each that waited holds of it, and of the others
 module _ (P : ℕ → Type 0) where
@@ -146,9 +146,9 @@ module _ (P : ℕ → Type 0) where
   Out q none = Unit {0}
   Out q (some p) = (suc (length (p .others)) ≡ length q) × (Each P q → P (p .node) × Each P (p .others))
 
-  pub pop-out : (rs : List Rec) (t : List Node) (q : List ℕ) → Out q (pop rs t q)
+  pub pop-out : (F : Setting) (rs : List Rec) (t : List Node) (q : List ℕ) → Out q (pop F rs t q)
   unfolding pop
-  pop-out rs t q = go (pop rs t q) (class-taken rs t q classes)
+  pop-out F rs t q = go (pop F rs t q) (class-taken F rs t q classes)
     where
       go : (o : Option Popped) → IfTaken q o → Out q o
       go none k = tt
@@ -160,9 +160,9 @@ low [] h i = omega arith
 low (n ∷ ns) h zero = leb-true n 2 (and-left (leb n 2) _ h)
 low (n ∷ ns) h (suc i) = low ns (and-right (leb n 2) _ h) i
 
-priority-low : (rs : List Rec) (r : Rec) → priorityOf rs r ≤ 2
+priority-low : (F : Setting) (rs : List Rec) (r : Rec) → priorityOf F rs r ≤ 2
 unfolding priorityOf
-priority-low rs r =
+priority-low F rs r =
     cond-both (λ n. n ≤ 2) (is Non r) (getD prioritiesOfNon (numberOf (recAt rs (r .left) .kind)) 0) (getD priorities (numberOf (r .kind)) 0)
     (low prioritiesOfNon refl (numberOf (recAt rs (r .left) .kind))) (low priorities refl (numberOf (r .kind)))
 
@@ -179,44 +179,44 @@ else-none none b e = (refl, e)
 else-none (some p) b e = let z : _≡_ {A = ℕ} 0 1 = cc in absurd (omega arith)
 
 -- where a node waits, one is taken
-pub pop-some : (rs : List Rec) (t : List Node) (x : ℕ) (xs : List ℕ) → pop rs t (x ∷ xs) ≡ none → ⊥
+pub pop-some : (F : Setting) (rs : List Rec) (t : List Node) (x : ℕ) (xs : List ℕ) → pop F rs t (x ∷ xs) ≡ none → ⊥
 unfolding pop popClass getNodePriority
-pop-some rs t x xs e =
+pop-some F rs t x xs e =
     let a = else-none _ _ e in
     let b = else-none _ _ (a .1) in
     let c = else-none _ _ (b .1) in
     let n0 = miss 0 (a .0) in
     let n1 = miss 1 (b .0) in
     let n2 = miss 2 (c .0) in
-    omega (arith, n0, n1, n2, priority-low rs (formulaOf rs (nodeAt t x .formula)))
+    omega (arith, n0, n1, n2, priority-low F rs (formulaOf rs (nodeAt t x .formula)))
   where
-    miss : (k : ℕ) → popFirst (λ y. eqb (getNodePriority rs t y) k) [] (x ∷ xs) ≡ none → priorityOf rs (formulaOf rs (nodeAt t x .formula)) ≢ k
-    miss k h = eqb-false (getNodePriority rs t x) k (first-none (λ y. eqb (getNodePriority rs t y) k) x xs [] h)
+    miss : (k : ℕ) → popFirst (λ y. eqb (getNodePriority F rs t y) k) [] (x ∷ xs) ≡ none → priorityOf F rs (formulaOf rs (nodeAt t x .formula)) ≢ k
+    miss k h = eqb-false (getNodePriority F rs t x) k (first-none (λ y. eqb (getNodePriority F rs t y) k) x xs [] h)
 
 -- each identifier waits, or was taken by a step
 unfoldable pub Counted : State → Type 0
 Counted s = s .steps + length (s .waiting) ≡ length (s .nodes)
 
 -- what the check for contradictions leaves: all but marks and proved
-pub checked-both : (P : State → Type 0) (F : Flags) (s : State) → P s → P (checkedForContradictions s) → P (checkForContradictions F s)
+pub checked-both : (P : State → Type 0) (F : Setting) (s : State) → P s → P (checkedForContradictions s) → P (checkForContradictions F s)
 unfolding checkForContradictions
 checked-both P F s h k = cond-both P (F .skip) s (checkedForContradictions s) h k
 
-pub checked-length : (F : Flags) (s : State) → length (checkForContradictions F s .nodes) ≡ length (s .nodes)
+pub checked-length : (F : Setting) (s : State) → length (checkForContradictions F s .nodes) ≡ length (s .nodes)
 unfolding checkedForContradictions
 checked-length F s =
     checked-both (λ (z : State). length (z .nodes) ≡ length (s .nodes)) F s refl (length-marks (pairs (s .formulas) (s .nodes) (leaves (s .nodes))) (s .nodes))
 
-checked-counted : (F : Flags) (s : State) → Counted s → Counted (checkForContradictions F s)
+checked-counted : (F : Setting) (s : State) → Counted s → Counted (checkForContradictions F s)
 unfolding Counted checkedForContradictions
 checked-counted F s h =
     checked-both Counted F s h (omega (arith, h, length-marks (pairs (s .formulas) (s .nodes) (leaves (s .nodes))) (s .nodes)))
 
-checked-steps : (F : Flags) (s : State) → checkForContradictions F s .steps ≡ s .steps
+checked-steps : (F : Setting) (s : State) → checkForContradictions F s .steps ≡ s .steps
 unfolding checkedForContradictions
 checked-steps F s = checked-both (λ (z : State). z .steps ≡ s .steps) F s refl refl
 
-pub appended-counted : (F : Flags) (s : State) (taken : Popped) → suc (length (taken .others)) ≡ length (s .waiting) → Counted s → Counted (appended F s taken)
+pub appended-counted : (F : Setting) (s : State) (taken : Popped) → suc (length (taken .others)) ≡ length (s .waiting) → Counted s → Counted (appended F s taken)
 unfolding appended Counted
 appended-counted F s taken e h =
     let r = apply F s (taken .node) in
@@ -229,12 +229,12 @@ appended-counted F s taken e h =
       length-append (s .nodes) (r .nodes),
     )
 
-appended-steps : (F : Flags) (s : State) (taken : Popped) → appended F s taken .steps ≡ suc (s .steps)
+appended-steps : (F : Setting) (s : State) (taken : Popped) → appended F s taken .steps ≡ suc (s .steps)
 unfolding appended
 appended-steps F s taken = refl
 
 -- a step that is due is counted
-pub due : (F : Flags) (s : State) → ended s ≡ false → Counted s → Counted (step F s) × (step F s .steps ≡ suc (s .steps))
+pub due : (F : Setting) (s : State) → ended F s ≡ false → Counted s → Counted (step F s) × (step F s .steps ≡ suc (s .steps))
 unfolding step stepBy ended
 due F s e h = waits (s .waiting) refl
   where
@@ -251,11 +251,11 @@ due F s e h = waits (s .waiting) refl
       checked-steps F (appended F s p) ∙ appended-steps F s p,
     )
 
-    waits : (q : List ℕ) → s .waiting ≡ q → abbrev-goal (pop (s .formulas) (s .nodes) (s .waiting))
+    waits : (q : List ℕ) → s .waiting ≡ q → abbrev-goal (pop F (s .formulas) (s .nodes) (s .waiting))
     waits [] d = true-false (sym (ap (empty {A = ℕ}) d) ∙ full)
     waits (x ∷ xs) d =
-        go (pop (s .formulas) (s .nodes) (s .waiting)) (pop-out (λ _. Unit {0}) (s .formulas) (s .nodes) (s .waiting))
-        (λ n. pop-some (s .formulas) (s .nodes) x xs (ap (pop (s .formulas) (s .nodes)) (sym d) ∙ n))
+        go (pop F (s .formulas) (s .nodes) (s .waiting)) (pop-out (λ _. Unit {0}) F (s .formulas) (s .nodes) (s .waiting))
+        (λ n. pop-some F (s .formulas) (s .nodes) x xs (ap (pop F (s .formulas) (s .nodes)) (sym d) ∙ n))
 
 pub length-rooted : (ns : List Node) → length (rooted ns) ≡ length ns
 unfolding rooted
@@ -263,9 +263,9 @@ length-rooted [] = refl
 length-rooted (n ∷ ns) = length-chain (placedBelow nobody Root n ∷ ns) 0 Middle (upFrom (length ns) 1)
 
 -- a step keeps what waits known
-pub known-step : (F : Flags) (s : State) → Known (s .nodes) (s .waiting) → Known (step F s .nodes) (step F s .waiting)
+pub known-step : (F : Setting) (s : State) → Known (s .nodes) (s .waiting) → Known (step F s .nodes) (step F s .waiting)
 unfolding step stepBy checkedForContradictions appended
-known-step F s h = go (pop (s .formulas) (s .nodes) (s .waiting)) (pop-out (λ x. x < length (s .nodes)) (s .formulas) (s .nodes) (s .waiting))
+known-step F s h = go (pop F (s .formulas) (s .nodes) (s .waiting)) (pop-out (λ x. x < length (s .nodes)) F (s .formulas) (s .nodes) (s .waiting))
   where
     go : (o : Option Popped) → Out (λ x. x < length (s .nodes)) (s .waiting) o → Known (stepBy F s o .nodes) (stepBy F s o .waiting)
     go none k = h
@@ -278,7 +278,7 @@ known-step F s h = go (pop (s .formulas) (s .nodes) (s .waiting)) (pop-out (λ x
         checked-both (λ (z : State). Known (z .nodes) (z .waiting)) F (appended F s p) done
         (each-map (λ x (l : x < length (appended F s p .nodes)). omega (arith, l, length-marks (pairs (appended F s p .formulas) (appended F s p .nodes) (leaves (appended F s p .nodes))) (appended F s p .nodes))) (appended F s p .waiting) done)
 
-pub known-start : (F : Flags) (rs : List Rec) → Known (start F rs .nodes) (start F rs .waiting)
+pub known-start : (F : Setting) (rs : List Rec) → Known (start F rs .nodes) (start F rs .waiting)
 unfolding start checkedForContradictions begun
 known-start F rs =
     let ns = branchNodes rs in
@@ -290,6 +290,6 @@ begun-counted : (rs : List Rec) → Counted (begun rs)
 unfolding begun Counted
 begun-counted rs = omega (arith, length-reverse (below (length (branchNodes rs))), length-from (length (branchNodes rs)) 0, length-rooted (branchNodes rs))
 
-pub start-counted : (F : Flags) (rs : List Rec) → Counted (start F rs)
+pub start-counted : (F : Setting) (rs : List Rec) → Counted (start F rs)
 unfolding start
 start-counted F rs = checked-counted F (begun rs) (begun-counted rs)

@@ -9,7 +9,7 @@ use lib.Dec.{eqb}
 use borrow.Author.Tests.{eqb-true, eqb-false, eq-eqb, ne-eqb}
 use lib.ListN.{length, getD, length-map}
 use Rattle.definition.specs.Lists.{Each, upFrom, below}
-use Rattle.definition.specs.Flags.{Flags}
+use Rattle.definition.specs.Setting.{Setting}
 use Rattle.definition.specs.Models.{Model, Has}
 use Rattle.definition.specs.Graph.{Graph, edge, graphOf, emptyGraph, addMissingReflexiveVertices, addMissingSymmetricVertices, paired, addMissingTransitiveVertices, addMissingGraphVertices, initializeGraphIfNeeded, fork}
 use Rattle.definition.proofs.Lists.{true-false, and-left, and-right, or-cases, either, cond-both, each-any, each-of-map, any-below}
@@ -29,14 +29,14 @@ edge-graph n e u v h =
     (row .0, cell .0, cell .1)
 
 -- how u is related to v in the tree of forks, in which par gives a world's parent; with both flags no two worlds are told apart
-pub data Rel (F : Flags) (par : ℕ → ℕ) (u : ℕ) : ℕ → Type 0 where
+pub data Rel (F : Setting) (par : ℕ → ℕ) (u : ℕ) : ℕ → Type 0 where
   alike : {v : ℕ} → F .symmetric ≡ true → F .transitive ≡ true → Rel F par u v
   itself : {v : ℕ} → F .reflexive ≡ true → u ≡ v → Rel F par u v
   kid : {v : ℕ} → par v < v → u ≡ par v → Rel F par u v
   back : {v : ℕ} → F .symmetric ≡ true → par u < u → v ≡ par u → Rel F par u v
   further : {v : ℕ} → F .transitive ≡ true → par v < v → Rel F par u (par v) → Rel F par u v
 
-module _ (F : Flags) where
+module _ (F : Setting) where
   rel-sym : (par : ℕ → ℕ) (u v : ℕ) → F .symmetric ≡ true → Rel F par u v → Rel F par v u
   rel-sym par u v s (alike _ t) = alike s t
   rel-sym par u v s (itself r e) = itself r (sym e)
@@ -152,7 +152,7 @@ module _ (F : Flags) where
   no-edges par = record { from = λ u v k. true-false (sym k); to = λ u v k. true-false (sym k); rel = λ u v k. true-false (sym k) }
 
 -- in a model with the flagged properties, an edge holds between the images of worlds that occur
-module _ (F : Flags) (M : Model) (has : Has F M) (par f : ℕ → ℕ) (Occ : ℕ → Type 0)
+module _ (F : Setting) (M : Model) (has : Has F M) (par f : ℕ → ℕ) (Occ : ℕ → Type 0)
     (inside : (v : ℕ) → Occ v → f v < M .size)
     (above : (v : ℕ) → Occ v → (v ≡ 0) ⊎ ((par v < v) × Occ (par v) × (M .reach (f (par v)) (f v) ≡ true)))
     (zero-occurs : Occ 0)
@@ -195,15 +195,15 @@ squared-graph n e =
     let row : (u : ℕ) → length (map (e u) (below n)) ≡ n = λ u. length-map (below n) _ ∙ length-from n 0 in
     record { rows = length-map (below n) _ ∙ length-from n 0; each = each-of-map _ _ (below n) (each-any _ row (below n)) }
 
-pub squared-missing : (F : Flags) (g : Graph) → Squared g → Squared (addMissingGraphVertices F g)
+pub squared-missing : (F : Setting) (g : Graph) → Squared g → Squared (addMissingGraphVertices F g)
 unfolding addMissingReflexiveVertices addMissingSymmetricVertices addMissingTransitiveVertices
 squared-missing F g s = missing-keeps F Squared g s (λ h f q. squared-graph _ _) (λ h f q. squared-graph _ _) (λ h f q. squared-graph _ _)
 
-pub squared-init : (F : Flags) (g : Graph) → Squared g → Squared (initializeGraphIfNeeded F g)
+pub squared-init : (F : Setting) (g : Graph) → Squared g → Squared (initializeGraphIfNeeded F g)
 unfolding initializeGraphIfNeeded
 squared-init F g s = cond-both Squared (eqb (g .worlds) 0) _ g (squared-missing F _ (squared-graph 1 _)) s
 
-pub squared-fork : (F : Flags) (g : Graph) (u : ℕ) → Squared (fork F g u)
+pub squared-fork : (F : Setting) (g : Graph) (u : ℕ) → Squared (fork F g u)
 unfolding fork
 squared-fork F g u = squared-missing F _ (squared-graph (suc (g .worlds)) _)
 

@@ -12,7 +12,7 @@ use lib.ListN.{length}
 use lib.Seq.{set-out}
 use Rattle.definition.specs.Lists.{Each, find, orElse, filter, empty, upFrom}
 use Rattle.definition.specs.Records.{Rec, nobody, marks}
-use Rattle.definition.specs.Flags.{Flags}
+use Rattle.definition.specs.Setting.{Setting}
 use Rattle.definition.specs.Tree.{Node, Root, Middle, newNode, nodeAt, placedBelow, markedAgainst, change, leaves, path}
 use Rattle.definition.specs.Subtree.{Subtree, Targeted, flat, numbered, copied, appendSubtreeOnLeaf, pushSubtree, appendCopies, appendOn, takes, appendSubtree, appendLogicRuleResult}
 use Rattle.definition.specs.Queue.{Popped, pop}
@@ -137,7 +137,7 @@ unfolding markAll
 marked-all m [] t h k = k
 marked-all m (o ∷ ps) t h k = marked-all m ps (mark t o) (h .1) (marked-one m t o (h .0) k)
 
-marked-check : (F : Flags) (s : State) → Treed (s .nodes) → Marked (length (s .nodes)) (s .nodes) → Marked (length (checkForContradictions F s .nodes)) (checkForContradictions F s .nodes)
+marked-check : (F : Setting) (s : State) → Treed (s .nodes) → Marked (length (s .nodes)) (s .nodes) → Marked (length (checkForContradictions F s .nodes)) (checkForContradictions F s .nodes)
 unfolding checkedForContradictions
 marked-check F s r k =
     let found = pairs (s .formulas) (s .nodes) (leaves (s .nodes)) in
@@ -149,9 +149,9 @@ pub record Numbered (t : List Node) : Type 0 where
   pub treed : Treed t
   pub marked : Marked (length t) t
 
-numbered-step : (F : Flags) (s : State) → Numbered (s .nodes) → length (step F s .nodes) ≤ nobody → Numbered (step F s .nodes)
+numbered-step : (F : Setting) (s : State) → Numbered (s .nodes) → length (step F s .nodes) ≤ nobody → Numbered (step F s .nodes)
 unfolding step stepBy appended
-numbered-step F s k small = record { treed = step-keeps F s .treed (k .treed) small; marked = go (pop (s .formulas) (s .nodes) (s .waiting)) small }
+numbered-step F s k small = record { treed = step-keeps F s .treed (k .treed) small; marked = go (pop F (s .formulas) (s .nodes) (s .waiting)) small }
   where
     go : (o : Option Popped) → length (stepBy F s o .nodes) ≤ nobody → Marked (length (stepBy F s o .nodes)) (stepBy F s o .nodes)
     go none l = k .marked
@@ -165,10 +165,10 @@ numbered-step F s k small = record { treed = step-keeps F s .treed (k .treed) sm
         (marked-result (length (z .nodes)) (r .subtrees) u (p .others)
         (marked-append (length (z .nodes)) (s .nodes) (r .nodes) (marked-more (length (s .nodes)) (length (z .nodes)) (s .nodes) (keep .longer) (k .marked)) (apply-each Unmarked (λ a b c. refl) F s (p .node))))
 
-numbered-steps : (test : State → Bool) (n : ℕ) (F : Flags) (s : State) → Numbered (s .nodes) → length (steps test n F s .nodes) ≤ nobody → Numbered (steps test n F s .nodes)
+numbered-steps : (test : Setting → State → Bool) (n : ℕ) (F : Setting) (s : State) → Numbered (s .nodes) → length (steps test n F s .nodes) ≤ nobody → Numbered (steps test n F s .nodes)
 unfolding steps
 numbered-steps test zero F s k small = k
-numbered-steps test (suc n) F s k small = go (test s) small (numbered-steps test n F (step F s))
+numbered-steps test (suc n) F s k small = go (test F s) small (numbered-steps test n F (step F s))
   where
     rest : State
     rest = steps test n F (step F s)
@@ -190,7 +190,7 @@ begun-unmarked rs x = go (marks rs)
         ∙ unmarked-at t (refl, each-of-map Unmarked (λ g. newNode nobody g 0) fs (each-any (λ g. Unmarked (newNode nobody g 0)) (λ g. refl) fs)) x
 
 -- every state of a run, as long as its identifiers stay below nobody
-pub run-numbered : (test : State → Bool) (n : ℕ) (F : Flags) (rs : List Rec) → empty (marks rs) ≡ false → length (steps test n F (start F rs) .nodes) ≤ nobody →
+pub run-numbered : (test : Setting → State → Bool) (n : ℕ) (F : Setting) (rs : List Rec) → empty (marks rs) ≡ false → length (steps test n F (start F rs) .nodes) ≤ nobody →
     Numbered (steps test n F (start F rs) .nodes)
 unfolding start
 run-numbered test n F rs e small =

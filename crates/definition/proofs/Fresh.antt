@@ -12,7 +12,7 @@ use lib.ListN.{length}
 use lib.Seq.{ext-getD}
 use Rattle.definition.specs.Lists.{Each, all, filter, elem, upFrom, empty}
 use Rattle.definition.specs.Records.{nobody, Rec, marks}
-use Rattle.definition.specs.Flags.{Flags}
+use Rattle.definition.specs.Setting.{Setting}
 use Rattle.definition.specs.Tree.{Node, nodeAt, markedAgainst, change, isLeaf, leaves, path}
 use Rattle.definition.specs.Contradiction.{Pair, isPair, mark, markAll, pairs}
 use Rattle.definition.specs.Subtree.{takes}
@@ -247,7 +247,7 @@ pub record Watched (s : State) : Type 0 where
   pub checked : Checked (s .formulas) (s .nodes)
   pub told : s .proved ≡ all isPair (pairs (s .formulas) (s .nodes) (leaves (s .nodes)))
 
-abbrev pub Watch : Flags → State → Type 0
+abbrev pub Watch : Setting → State → Type 0
 Watch F s = F .skip ≡ false → length (s .nodes) ≤ nobody → Watched s
 
 pairs-marked : (rs : List Rec) (t : List Node) (ps : List (Option Pair)) → pairs rs (markAll t ps) (leaves (markAll t ps)) ≡ pairs rs t (leaves t)
@@ -255,32 +255,32 @@ unfolding pairs pairOf
 pairs-marked rs t ps =
     rw (marks-leaves t ps) (ap (λ (f : ℕ → Option Pair). map f (leaves t)) (fun-ext (λ x. marks-same rs t ps x .same-pair)))
 
-check-told : (F : Flags) (s : State) → F .skip ≡ false → s .proved ≡ false →
+check-told : (F : Setting) (s : State) → F .skip ≡ false → s .proved ≡ false →
     let z = checkForContradictions F s in z .proved ≡ all isPair (pairs (z .formulas) (z .nodes) (leaves (z .nodes)))
 unfolding checkForContradictions checkedForContradictions
 check-told F s e h = rw (e, h) (ap (all isPair) (sym (pairs-marked (s .formulas) (s .nodes) (pairs (s .formulas) (s .nodes) (leaves (s .nodes))))))
 
-pub watch-start : (F : Flags) (rs : List Rec) → empty (marks rs) ≡ false → Watch F (start F rs)
+pub watch-start : (F : Setting) (rs : List Rec) → empty (marks rs) ≡ false → Watch F (start F rs)
 unfolding start begun
 watch-start F rs b e few = record { checked = start-checked F rs e b few; told = check-told F (begun rs) e refl }
 
-unproved : (s : State) → stops s ≡ false → s .proved ≡ false
+unproved : (F : Setting) (s : State) → stops F s ≡ false → s .proved ≡ false
 unfolding stops ended
-unproved s e = or-left (s .proved) _ (or-left (ended s) _ e)
+unproved F s e = or-left (s .proved) _ (or-left (ended F s) _ e)
 
-pub watch-step : (F : Flags) (k : ℕ) (s : State) → Fit F k s → stops s ≡ false → Watch F s → Watch F (step F s)
+pub watch-step : (F : Setting) (k : ℕ) (s : State) → Fit F k s → stops F s ≡ false → Watch F s → Watch F (step F s)
 unfolding step stepBy appended
 watch-step F k s h q w e few =
     let small : length (s .nodes) ≤ nobody = omega (arith, ready F k s h q .nodes) in
-    record { checked = step-checked F k s e h q few (w e small .checked); told = go (pop (s .formulas) (s .nodes) (s .waiting)) (w e small .told) }
+    record { checked = step-checked F k s e h q few (w e small .checked); told = go (pop F (s .formulas) (s .nodes) (s .waiting)) (w e small .told) }
   where
     go : (o : Option Popped) → s .proved ≡ all isPair (pairs (s .formulas) (s .nodes) (leaves (s .nodes))) →
         stepBy F s o .proved ≡ all isPair (pairs (stepBy F s o .formulas) (stepBy F s o .nodes) (leaves (stepBy F s o .nodes)))
     go none d = d
-    go (some p) d = check-told F (appended F s p) e (unproved s q)
+    go (some p) d = check-told F (appended F s p) e (unproved F s q)
 
 -- ---- the tree of a step before its check
-module _ (F : Flags) (k : ℕ) (s : State) (p : Popped) (h : Fit F k s) (e : stops s ≡ false) (few : length (appended F s p .nodes) ≤ nobody) where
+module _ (F : Setting) (k : ℕ) (s : State) (p : Popped) (h : Fit F k s) (e : stops F s ≡ false) (few : length (appended F s p .nodes) ≤ nobody) where
   abbrev t : List Node
   t = s .nodes
 
@@ -328,4 +328,4 @@ module _ (F : Flags) (k : ℕ) (s : State) (p : Popped) (h : Fit F k s) (e : sto
           let each = leaf-each u r′ (λ l. isPair (pairOf rs u l) ≡ true) (each-from (λ o. isPair o ≡ true) (pairOf rs u) (leaves u) (all-each isPair (map (pairOf rs u) (leaves u)) q)) in
           true-false (sym (each-all isPair (map (pairOf (s .formulas) t) (leaves t)) (each-of-map (λ o. isPair o ≡ true) (pairOf (s .formulas) t) (leaves t)
           (each-map {Q = λ l. isPair (pairOf (s .formulas) t l) ≡ true} (λ l (b : Bare (spots t) l). ap isPair (sym (appended-same F k s h e l (b .0) p .same-pair)) ∙ each l (bare-after short l b)) (leaves t) (leaves-bare t r))))
-          ∙ sym (w .told) ∙ unproved s e))
+          ∙ sym (w .told) ∙ unproved F s e))

@@ -10,7 +10,7 @@ use lib.ListN.{length, length-append, length-map, List·getD-eq-default}
 use Rattle.definition.specs.Limits.{mostIdentifiers}
 use Rattle.definition.specs.Lists.{Each, Distinct, filter, upFrom, empty}
 use Rattle.definition.specs.Records.{Rec, marks, nobody}
-use Rattle.definition.specs.Flags.{Flags}
+use Rattle.definition.specs.Setting.{Setting}
 use Rattle.definition.specs.Tree.{Place, Root, Middle, Node, childless, isLeaf, newNode, nodeAt, placedBelow, linkChain, leaves}
 use Rattle.definition.specs.Rules.{Rule}
 use Rattle.definition.specs.Contradiction.{Pair, markAll}
@@ -181,21 +181,21 @@ result-steady t ns q rs new h r =
     steady-by rs (t ++ ns) q (λ before after e few. result-keeps t ns q before after new (subst (Issued (length t) (length t + length ns)) e h) .treed r (omega (arith, few)))
 
 -- where a rule's result is placed
-pub rule-steady : (F : Flags) (s : State) (x : ℕ) (more : List Rec) (c : Rule ℕ) (q : List ℕ) → Treed (s .nodes) → Steady (s .nodes ++ applyRule F s x more c .nodes) q (applyRule F s x more c .subtrees)
+pub rule-steady : (F : Setting) (s : State) (x : ℕ) (more : List Rec) (c : Rule ℕ) (q : List ℕ) → Treed (s .nodes) → Steady (s .nodes ++ applyRule F s x more c .nodes) q (applyRule F s x more c .subtrees)
 rule-steady F s x more c q r = result-steady (s .nodes) (applyRule F s x more c .nodes) q (applyRule F s x more c .subtrees) (rule-each New (λ a b c. refl) F s x more c) (rule-issued F s x more c) r
 
 pub here-treed : (s : State) (x : ℕ) (more : List Rec) (fs : Subtree) → Treed (s .nodes) → Treed (s .nodes ++ applyHere s x more fs .nodes)
 here-treed s x more fs = new-treed (s .nodes) (applyHere s x more fs .nodes) (here-each New (λ a b c. refl) s x more fs)
 
 -- the nodes that a rule makes are not in the tree
-pub apply-new : (F : Flags) (s : State) (x : ℕ) → Each New (apply F s x .nodes)
+pub apply-new : (F : Setting) (s : State) (x : ℕ) → Each New (apply F s x .nodes)
 apply-new = apply-each New (λ a b c. refl)
 
 -- the tree of a step that applied the rule of x, when the first of the result's subtrees are placed
-abbrev pub between : Flags → State → ℕ → List ℕ → List Targeted → List Node
+abbrev pub between : Setting → State → ℕ → List ℕ → List Targeted → List Node
 between F s x q before = appendLogicRuleResult (s .nodes ++ apply F s x .nodes) q before .nodes
 
-pub between-keeps : (F : Flags) (s : State) (x : ℕ) (q : List ℕ) (before after : List Targeted) → apply F s x .subtrees ≡ before ++ after → Keeps (s .nodes) (between F s x q before)
+pub between-keeps : (F : Setting) (s : State) (x : ℕ) (q : List ℕ) (before after : List Targeted) → apply F s x .subtrees ≡ before ++ after → Keeps (s .nodes) (between F s x q before)
 between-keeps F s x q before after e = result-keeps (s .nodes) (apply F s x .nodes) q before after (apply-new F s x) (rw e at (apply-issued F s x))
 
 -- marks change nothing of the tree
@@ -203,23 +203,23 @@ pub marks-keep : (ps : List (Option Pair)) (t : List Node) → Keeps t (markAll 
 marks-keep ps t =
     record { longer = omega (arith, length-marks ps t); treed = λ r few. subst Tree (sym (fun-ext (mark-keeps spot (λ j n. refl) ps t))) r }
 
-check-keeps : (F : Flags) (s : State) → Keeps (s .nodes) (checkForContradictions F s .nodes)
+check-keeps : (F : Setting) (s : State) → Keeps (s .nodes) (checkForContradictions F s .nodes)
 unfolding checkForContradictions checkedForContradictions
 check-keeps F s = cond-both (λ (z : State). Keeps (s .nodes) (z .nodes)) (F .skip) s _ (keeps-refl (s .nodes)) (marks-keep _ (s .nodes))
 
-pub step-keeps : (F : Flags) (s : State) → Keeps (s .nodes) (step F s .nodes)
+pub step-keeps : (F : Setting) (s : State) → Keeps (s .nodes) (step F s .nodes)
 unfolding step stepBy appended
-step-keeps F s = go (pop (s .formulas) (s .nodes) (s .waiting))
+step-keeps F s = go (pop F (s .formulas) (s .nodes) (s .waiting))
   where
     go : (p : Option Popped) → Keeps (s .nodes) (stepBy F s p .nodes)
     go none = keeps-refl (s .nodes)
     go (some p) = keeps-trans (s .nodes) _ _ (between-keeps F s (p .node) (p .others) (apply F s (p .node) .subtrees) [] (sym (append-nil _))) (check-keeps F _)
 
-pub steps-keep : (ends : State → Bool) (n : ℕ) (F : Flags) (s : State) → Keeps (s .nodes) (steps ends n F s .nodes)
+pub steps-keep : (ends : Setting → State → Bool) (n : ℕ) (F : Setting) (s : State) → Keeps (s .nodes) (steps ends n F s .nodes)
 unfolding steps
 steps-keep ends zero F s = keeps-refl (s .nodes)
 steps-keep ends (suc n) F s =
-    cond-both (λ (z : State). Keeps (s .nodes) (z .nodes)) (ends s) s (steps ends n F (step F s)) (keeps-refl (s .nodes))
+    cond-both (λ (z : State). Keeps (s .nodes) (z .nodes)) (ends F s) s (steps ends n F (step F s)) (keeps-refl (s .nodes))
     (keeps-trans (s .nodes) (step F s .nodes) _ (step-keeps F s) (steps-keep ends n F (step F s)))
 
 -- the root alone
@@ -260,34 +260,34 @@ begun-treed rs e few = go (marks rs) e few
     go [] q l = true-false q
     go (f ∷ fs) q l = rooted-treed (newNode nobody f 0) (map (λ f. newNode nobody f 0) fs) (map-new (λ f. newNode nobody f 0) (λ f. refl) fs) l
 
-pub start-treed : (F : Flags) (rs : List Rec) → empty (marks rs) ≡ false → length (start F rs .nodes) ≤ nobody → Treed (start F rs .nodes)
+pub start-treed : (F : Setting) (rs : List Rec) → empty (marks rs) ≡ false → length (start F rs .nodes) ≤ nobody → Treed (start F rs .nodes)
 unfolding start
 start-treed F rs e few = let k = check-keeps F (begun rs) in k .treed (begun-treed rs e (omega (arith, k .longer, few))) few
 
 -- s is a state of a run of a branch, whatever ends the run
-pub record Reached (F : Flags) (rs : List Rec) (s : State) : Type 0 where
+pub record Reached (F : Setting) (rs : List Rec) (s : State) : Type 0 where
   pub branch : empty (marks rs) ≡ false
-  pub ends : State → Bool
+  pub ends : Setting → State → Bool
   pub bound : ℕ
   pub is : s ≡ steps ends bound F (start F rs)
 
-pub reached-treed : (F : Flags) (rs : List Rec) (s : State) → Reached F rs s → length (s .nodes) ≤ nobody → Treed (s .nodes)
+pub reached-treed : (F : Setting) (rs : List Rec) (s : State) → Reached F rs s → length (s .nodes) ≤ nobody → Treed (s .nodes)
 reached-treed F rs s h few =
     let k = steps-keep (h .ends) (h .bound) F (start F rs) in
     let l = rw (h .is) at few in
     rw (h .is) (k .treed (start-treed F rs (h .branch) (omega (arith, l, k .longer))) l)
 
 -- between two placings of one step
-pub reached-between : (F : Flags) (rs : List Rec) (s : State) (x : ℕ) (q : List ℕ) (before after : List Targeted) → Reached F rs s → apply F s x .subtrees ≡ before ++ after →
+pub reached-between : (F : Setting) (rs : List Rec) (s : State) (x : ℕ) (q : List ℕ) (before after : List Targeted) → Reached F rs s → apply F s x .subtrees ≡ before ++ after →
     length (between F s x q before) ≤ nobody → Treed (between F s x q before) × Unbounded (between F s x q before)
 reached-between F rs s x q before after h e few =
     let k = between-keeps F s x q before after e in
     let r = k .treed (reached-treed F rs s h (omega (arith, k .longer, few))) few in
     (r, treed-unbounded (between F s x q before) r)
 
-pub run-treed : (n : ℕ) (F : Flags) (rs : List Rec) → empty (marks rs) ≡ false → length (run n F (start F rs) .nodes) ≤ nobody → Treed (run n F (start F rs) .nodes)
+pub run-treed : (n : ℕ) (F : Setting) (rs : List Rec) → empty (marks rs) ≡ false → length (run n F (start F rs) .nodes) ≤ nobody → Treed (run n F (start F rs) .nodes)
 run-treed n F rs e few = reached-treed F rs (run n F (start F rs)) (record { branch = e; ends = stops; bound = n; is = refl }) few
 
 -- in every state of a run, no bound of depth from the number of nodes on decides the leaves or their paths
-pub run-paths : (n : ℕ) (F : Flags) (rs : List Rec) → empty (marks rs) ≡ false → length (run n F (start F rs) .nodes) ≤ nobody → Unbounded (run n F (start F rs) .nodes)
+pub run-paths : (n : ℕ) (F : Setting) (rs : List Rec) → empty (marks rs) ≡ false → length (run n F (start F rs) .nodes) ≤ nobody → Unbounded (run n F (start F rs) .nodes)
 run-paths n F rs e few = treed-unbounded (run n F (start F rs) .nodes) (run-treed n F rs e few)

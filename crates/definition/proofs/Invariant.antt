@@ -9,7 +9,7 @@ use native.Mathlib.Omega.{arith}
 use lib.ListN.{length, length-append}
 use Rattle.definition.specs.Lists.{Each, all}
 use Rattle.definition.specs.Records.{Rec, nobody}
-use Rattle.definition.specs.Flags.{Flags}
+use Rattle.definition.specs.Setting.{Setting}
 use Rattle.definition.specs.Models.{Model}
 use Rattle.definition.specs.Graph.{Graph, initializeGraphIfNeeded}
 use Rattle.definition.specs.Tree.{Node, Children, nodeAt, isLeaf, leaves, path}
@@ -71,10 +71,10 @@ module _ (M : Model) (par img : ℕ → ℕ) where
       back (x ∷ xs) h (inr q) = inr (back xs (h .1) q)
 
 -- a node's world is below the number of worlds, once there are any
-abbrev pub Low : Flags → Graph → Label → Type 0
+abbrev pub Low : Setting → Graph → Label → Type 0
 Low F g l = l .world < initializeGraphIfNeeded F g .worlds
 
-pub record Inv (F : Flags) (M : Model) (w : ℕ) (s : State) : Type 0 where
+pub record Inv (F : Setting) (M : Model) (w : ℕ) (s : State) : Type 0 where
   pub wf : WellFormed (s .formulas)
   pub set : ℕ → Bool
   pub par : ℕ → ℕ
@@ -88,7 +88,7 @@ pub record Inv (F : Flags) (M : Model) (w : ℕ) (s : State) : Type 0 where
   pub unproved : s .proved ≡ false
 
 -- no node of the set contradicts another, so that not every path has a pair
-not-all : (F : Flags) (M : Model) (w : ℕ) (s : State) → Inv F M w s → all isPair (pairs (s .formulas) (s .nodes) (leaves (s .nodes))) ≡ false
+not-all : (F : Setting) (M : Model) (w : ℕ) (s : State) → Inv F M w s → all isPair (pairs (s .formulas) (s .nodes) (leaves (s .nodes))) ≡ false
 unfolding pairs isPair
 not-all F M w s i = not-true-false _ (λ e. none-all (leaves t) (leaf-some t (i .set) (i .put .whole)) (all-each isPair (pairs (s .formulas) t (leaves t)) e))
   where
@@ -104,7 +104,7 @@ not-all F M w s i = not-true-false _ (λ e. none-all (leaves t) (leaf-some t (i 
     none-all (leaf ∷ ls) (inl h) k = true-false (sym (subst (λ (o : Option Pair). isPair o ≡ true) (open-path leaf h) (k .0)))
     none-all (leaf ∷ ls) (inr h) k = none-all ls h (k .1)
 
-pub inv-checked : (F : Flags) (M : Model) (w : ℕ) (s : State) → Inv F M w s → Inv F M w (checkForContradictions F s)
+pub inv-checked : (F : Setting) (M : Model) (w : ℕ) (s : State) → Inv F M w s → Inv F M w (checkForContradictions F s)
 unfolding checkedForContradictions
 inv-checked F M w s i =
     checked-both (Inv F M w) F s i
@@ -155,7 +155,7 @@ inv-checked F M w s i =
     neither false b p q = q
 
 -- what a rule's result has to have, so that it can be placed
-pub record Faithful (F : Flags) (M : Model) (w : ℕ) (s : State) (i : Inv F M w s) (r : LogicRuleResult) : Type 0 where
+pub record Faithful (F : Setting) (M : Model) (w : ℕ) (s : State) (i : Inv F M w s) (r : LogicRuleResult) : Type 0 where
   pub wf : WellFormed (s .formulas ++ r .formulas)
   pub par : ℕ → ℕ
   pub img : ℕ → ℕ
@@ -167,7 +167,7 @@ pub record Faithful (F : Flags) (M : Model) (w : ℕ) (s : State) (i : Inv F M w
   pub stand : Each (Stands M par img (s .formulas ++ r .formulas) (s .nodes) (i .set)) (r .necessities)
 
 -- placed, it keeps the invariant
-pub inv-appended : (F : Flags) (M : Model) (w : ℕ) (s : State) (taken : Popped) (i : Inv F M w s) → Faithful F M w s i (apply F s (taken .node)) →
+pub inv-appended : (F : Setting) (M : Model) (w : ℕ) (s : State) (taken : Popped) (i : Inv F M w s) → Faithful F M w s i (apply F s (taken .node)) →
     length (appended F s taken .nodes) ≤ nobody → Inv F M w (appended F s taken)
 unfolding appended
 inv-appended F M w s taken i k small =

@@ -9,7 +9,7 @@ use native.Mathlib.Omega.{arith}
 use lib.ListN.{length, length-append, length-map, length-reverse}
 use Rattle.definition.specs.Lists.{Each, Distinct, upFrom, filter}
 use Rattle.definition.specs.Records.{Rec}
-use Rattle.definition.specs.Flags.{Flags}
+use Rattle.definition.specs.Setting.{Setting}
 use Rattle.definition.specs.Graph.{Graph, initializeGraphIfNeeded}
 use Rattle.definition.specs.Tree.{Node, newNode, nodeAt, path}
 use Rattle.definition.specs.Rules.{Rule, nothing, down, split, asPossible, asNecessary, expansion}
@@ -208,7 +208,7 @@ after-two ns t g k n =
     subst (λ (m : ℕ). Issued (n + 2) m (reapplyNecessityAfterPossibility t g k (n + 2) ns .subtrees)) (omega arith) (after-issued ns t g k (n + 2))
 
 -- the identifiers of a result's subtrees are those of the nodes that it made
-pub rule-issued : (F : Flags) (s : State) (x : ℕ) (more : List Rec) (r : Rule ℕ) → Takes (length (s .nodes)) (applyRule F s x more r)
+pub rule-issued : (F : Setting) (s : State) (x : ℕ) (more : List Rec) (r : Rule ℕ) → Takes (length (s .nodes)) (applyRule F s x more r)
 unfolding applyRule applyPossibility applyNecessity flat
 rule-issued F s x more nothing = here-issued s x more (withMiddle [])
 rule-issued F s x more (down fs) = here-issued s x more (withMiddle fs)
@@ -225,7 +225,7 @@ rule-issued F s x more (asPossible f) =
     )
 rule-issued F s x more (asNecessary f) = reapply-issued (s .nodes) (initializeGraphIfNeeded F (s .graph)) none (length (s .nodes)) _
 
-pub apply-issued : (F : Flags) (s : State) (x : ℕ) → Takes (length (s .nodes)) (apply F s x)
+pub apply-issued : (F : Setting) (s : State) (x : ℕ) → Takes (length (s .nodes)) (apply F s x)
 unfolding apply
 apply-issued F s x = let e = expansion (s .formulas) (nodeAt (s .nodes) x .formula) in rule-issued F s x (e .made) (e .rule)
 

@@ -5,7 +5,7 @@ use Prim.Native.Nat.{ℕ, _+_}
 use lib.ListN.{length}
 use Rattle.definition.specs.Lists.{Each, filter}
 use Rattle.definition.specs.Records.{Rec}
-use Rattle.definition.specs.Flags.{Flags}
+use Rattle.definition.specs.Setting.{Setting}
 use Rattle.definition.specs.Graph.{Graph}
 use Rattle.definition.specs.Tree.{Node, newNode, nodeAt, path}
 use Rattle.definition.specs.Rules.{Rule, nothing, down, split, asPossible, asNecessary, expansion}
@@ -53,7 +53,7 @@ module _ (Q : Node → Type 0) where
         let w = nodeAt (s .nodes) x .world in
         each-of-map Q (λ f. newNode x f w) (flat (turned fs)) (each-any (λ f. Q (newNode x f w)) (λ f. new x f w) (flat (turned fs)))
 
-    pub rule-each : (F : Flags) (s : State) (x : ℕ) (more : List Rec) (r : Rule ℕ) → Each Q (applyRule F s x more r .nodes)
+    pub rule-each : (F : Setting) (s : State) (x : ℕ) (more : List Rec) (r : Rule ℕ) → Each Q (applyRule F s x more r .nodes)
     unfolding applyRule applyPossibility applyNecessity
     rule-each F s x more nothing = here-each s x more (withMiddle [])
     rule-each F s x more (down fs) = here-each s x more (withMiddle fs)
@@ -61,6 +61,6 @@ module _ (Q : Node → Type 0) where
     rule-each F s x more (asPossible f) = (new _ _ _, (new _ _ _, after-each-node (s .necessities) (s .nodes) _ _ _ (each-any (Gifts _) (gifts _) (s .necessities))))
     rule-each F s x more (asNecessary f) = reapply-each (s .nodes) _ none _ _ (gifts _ _)
 
-    pub apply-each : (F : Flags) (s : State) (x : ℕ) → Each Q (apply F s x .nodes)
+    pub apply-each : (F : Setting) (s : State) (x : ℕ) → Each Q (apply F s x .nodes)
     unfolding apply
     apply-each F s x = let e = expansion (s .formulas) (nodeAt (s .nodes) x .formula) in rule-each F s x (e .made) (e .rule)

@@ -12,7 +12,7 @@ use lib.ListN.{length, drop}
 use lib.Seq.{set-getD}
 use Rattle.definition.specs.Lists.{Each, any, all, orElse, filter, empty}
 use Rattle.definition.specs.Records.{nobody, isNobody, Rec, marks}
-use Rattle.definition.specs.Flags.{Flags}
+use Rattle.definition.specs.Setting.{Setting}
 use Rattle.definition.specs.Tree.{Node, Place, Root, Left, Middle, Right, Unplaced, Children, nodeAt, markedAgainst, isLeaf, isContradictory, only, leavesBelow, leaves, path}
 use Rattle.definition.specs.Contradiction.{areNodesContradictory, Pair, pair, isPair, mark, markAll, pairs}
 use Rattle.definition.specs.Queue.{Popped, pop}
@@ -273,7 +273,7 @@ all-closed rs t r few m =
     sym (closed-pair rs u (k .treed r size) size (marks-checked rs t r m) l (subst (λ (g : ℕ → Spot). Bare g l) stands b) ∙ ap isPair (marks-same rs t found l .same-pair))) (leaves t) (leaves-bare t r)))
 
 -- the tree of a step before its check
-module _ (F : Flags) (k : ℕ) (s : State) (p : Popped) (h : Fit F k s) (e : stops s ≡ false) (few : length (appended F s p .nodes) ≤ nobody) where
+module _ (F : Setting) (k : ℕ) (s : State) (p : Popped) (h : Fit F k s) (e : stops F s ≡ false) (few : length (appended F s p .nodes) ≤ nobody) where
   abbrev t : List Node
   t = s .nodes
 
@@ -332,19 +332,19 @@ module _ (F : Flags) (k : ℕ) (s : State) (p : Popped) (h : Fit F k s) (e : sto
         ⊎-elim (λ q. inl q) (λ o.
         inr (appended-same F k s h e (nodeAt u z .parent) (o .bare .0) p .same-pair ∙ open-none (s .formulas) t r (omega (arith, few, g .longer)) c (nodeAt u z .parent) o)) (appended-hung .1 .below z i l)
 
-check-checked : (F : Flags) (s : State) → F .skip ≡ false → Treed (s .nodes) → RightMarks (s .formulas) (s .nodes) → Checked (checkForContradictions F s .formulas) (checkForContradictions F s .nodes)
+check-checked : (F : Setting) (s : State) → F .skip ≡ false → Treed (s .nodes) → RightMarks (s .formulas) (s .nodes) → Checked (checkForContradictions F s .formulas) (checkForContradictions F s .nodes)
 unfolding checkForContradictions checkedForContradictions
 check-checked F s e r m = rw e (marks-checked (s .formulas) (s .nodes) r m)
 
 -- every state of a run that checks
-pub start-checked : (F : Flags) (rs : List Rec) → F .skip ≡ false → empty (marks rs) ≡ false → length (start F rs .nodes) ≤ nobody → Checked (start F rs .formulas) (start F rs .nodes)
+pub start-checked : (F : Setting) (rs : List Rec) → F .skip ≡ false → empty (marks rs) ≡ false → length (start F rs .nodes) ≤ nobody → Checked (start F rs .formulas) (start F rs .nodes)
 unfolding start
 start-checked F rs e b few = check-checked F (begun rs) e (begun-treed rs b (omega (arith, few, checked-length F (begun rs)))) (λ x i. inl (begun-unmarked rs x))
 
-pub step-checked : (F : Flags) (k : ℕ) (s : State) → F .skip ≡ false → Fit F k s → stops s ≡ false → length (step F s .nodes) ≤ nobody → Checked (s .formulas) (s .nodes) →
+pub step-checked : (F : Setting) (k : ℕ) (s : State) → F .skip ≡ false → Fit F k s → stops F s ≡ false → length (step F s .nodes) ≤ nobody → Checked (s .formulas) (s .nodes) →
     Checked (step F s .formulas) (step F s .nodes)
 unfolding step stepBy
-step-checked F k s e h q few c = go (pop (s .formulas) (s .nodes) (s .waiting)) few
+step-checked F k s e h q few c = go (pop F (s .formulas) (s .nodes) (s .waiting)) few
   where
     go : (o : Option Popped) → length (stepBy F s o .nodes) ≤ nobody → Checked (stepBy F s o .formulas) (stepBy F s o .nodes)
     go none l = c

@@ -10,7 +10,7 @@ use borrow.Author.Tests.{ne-eqb, eqb-true, eqb-false}
 use lib.ListN.{length, drop, take, length-append, List·getD-append}
 use Rattle.definition.specs.Lists.{Each, find, orElse, filter}
 use Rattle.definition.specs.Records.{nobody, isNobody, Kind, Non, BiImply, Comment, Rec, numberOf, is, arity, links, made, Unknown, recAt, formulaOf}
-use Rattle.definition.specs.Flags.{Flags}
+use Rattle.definition.specs.Setting.{Setting}
 use Rattle.definition.specs.Tree.{Node, Place, Left, Middle, Right, nodeAt, placedBelow, withChild, link, linkChain, change, upward, leaves, path}
 use Rattle.definition.specs.Subtree.{Subtree, Targeted, flat, numbered, copied, appendSubtreeOnLeaf, pushSubtree, appendCopies, appendOn, takes, appendSubtree, appendLogicRuleResult}
 use Rattle.definition.specs.Contradiction.{atomOf, atomsOf, said, denied, areFormulasContradictory, areNodesContradictory, Pair, pair, getContradictoryNodeIds, markAll, pairs}
@@ -141,7 +141,7 @@ same-refl : (rs : List Rec) (t : List Node) (x : ℕ) → Same rs rs t t x
 same-refl rs t x = record { same-path = refl; same-partner = refl; same-pair = refl }
 
 -- nor does the check for contradictions
-pub checked-same : (F : Flags) (s : State) (x : ℕ) → Same (s .formulas) (checkForContradictions F s .formulas) (s .nodes) (checkForContradictions F s .nodes) x
+pub checked-same : (F : Setting) (s : State) (x : ℕ) → Same (s .formulas) (checkForContradictions F s .formulas) (s .nodes) (checkForContradictions F s .nodes) x
 unfolding checkedForContradictions
 checked-same F s x =
     checked-both (λ (z : State). Same (s .formulas) (z .formulas) (s .nodes) (z .nodes) x) F s (same-refl (s .formulas) (s .nodes) x)
@@ -256,7 +256,7 @@ result-stem (a ∷ rs) t q lo hi i l z h =
     ∙ on-stem (filter (takes t (a .target)) (leaves t)) t q s z (omega (arith, h, l, near, i .1 .count)) (others lo (i .0) z (flat s) h (i .1 .within))
 
 -- placing some of the subtrees of a step changes nothing of the nodes that were there but their children
-pub between-grown : (F : Flags) (s : State) (x : ℕ) (q : List ℕ) (before after : List Targeted) → apply F s x .subtrees ≡ before ++ after → Grown (s .nodes) (between F s x q before)
+pub between-grown : (F : Setting) (s : State) (x : ℕ) (q : List ℕ) (before after : List Targeted) → apply F s x .subtrees ≡ before ++ after → Grown (s .nodes) (between F s x q before)
 between-grown F s x q before after e =
     let t = s .nodes in
     let ns = apply F s x .nodes in
@@ -266,7 +266,7 @@ between-grown F s x q before after e =
       stems = λ z h. result-stem before (t ++ ns) q (length t) (i .0) (i .1) (omega (arith, i .2, length-append t ns)) z h ∙ ap stem (node-append t ns z h);
     }
 
-pub appended-grown : (F : Flags) (s : State) (p : Popped) → Grown (s .nodes) (appended F s p .nodes)
+pub appended-grown : (F : Setting) (s : State) (p : Popped) → Grown (s .nodes) (appended F s p .nodes)
 unfolding appended
 appended-grown F s p = let rs = apply F s (p .node) .subtrees in between-grown F s (p .node) (p .others) rs [] (sym (append-nil rs))
 
@@ -295,7 +295,7 @@ module _ (t t′ : List Node) (r : Treed t) (g : Grown t t′) where
       same-by rs (rs ++ more) t t′ y (grown-path y i) (like y (in-range t y i)) (each-map like (path t y) (path-distinct t r y i .1))
 
 -- a step changes no path, partner or pair of a node that was in the tree
-module _ (F : Flags) (k : ℕ) (s : State) (h : Fit F k s) (e : stops s ≡ false) (y : ℕ) (i : In (spots (s .nodes)) y) where
+module _ (F : Setting) (k : ℕ) (s : State) (h : Fit F k s) (e : stops F s ≡ false) (y : ℕ) (i : In (spots (s .nodes)) y) where
   pub appended-same : (p : Popped) → Same (s .formulas) (appended F s p .formulas) (s .nodes) (appended F s p .nodes) y
   unfolding appended
   appended-same p =
@@ -304,7 +304,7 @@ module _ (F : Flags) (k : ℕ) (s : State) (h : Fit F k s) (e : stops s ≡ fals
 
   pub step-same : Same (s .formulas) (step F s .formulas) (s .nodes) (step F s .nodes) y
   unfolding step stepBy
-  step-same = go (pop (s .formulas) (s .nodes) (s .waiting))
+  step-same = go (pop F (s .formulas) (s .nodes) (s .waiting))
     where
       go : (o : Option Popped) → Same (s .formulas) (stepBy F s o .formulas) (s .nodes) (stepBy F s o .nodes) y
       go none = same-refl (s .formulas) (s .nodes) y

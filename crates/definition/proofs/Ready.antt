@@ -3,14 +3,14 @@ use mathlib.Core.Path.{_≡_, sym}
 use mathlib.Core.Bool.{false, cond}
 use mathlib.Core.List.{List, [], _∷_, map, append-nil}
 use mathlib.Core.Option.{Option, none, some}
-use Prim.Native.Nat.{ℕ, suc, _<_, _≤_}
+use Prim.Native.Nat.{ℕ, suc, _+_, _<_, _≤_}
 use native.Mathlib.Omega.{arith}
 use borrow.Author.Tests.{ltb-false, leb-false}
 use lib.ListN.{length, length-map, length-reverse}
-use Rattle.definition.specs.Limits.{mostRecords, mostIdentifiers, worldLimit}
+use Rattle.definition.specs.Limits.{mostRecords, mostIdentifiers, worldLimit, mostFormulas}
 use Rattle.definition.specs.Lists.{empty}
 use Rattle.definition.specs.Records.{Rec, marks}
-use Rattle.definition.specs.Flags.{Flags}
+use Rattle.definition.specs.Setting.{Setting}
 use Rattle.definition.specs.Graph.{Graph}
 use Rattle.definition.specs.Tree.{Node, nodeAt, leaves}
 use Rattle.definition.specs.Rules.{Rule, nothing, down, split, asPossible, asNecessary, expansion}
@@ -31,7 +31,7 @@ few-after t g k ns =
     let f : Necessity → Necessity = λ n. cond (isReapplied t k n) (visiting t g n) n in
     omega (arith, length-reverse (map f ns), length-map ns f)
 
-few-rule : (F : Flags) (s : State) (x : ℕ) (more : List Rec) (r : Rule ℕ) → length (applyRule F s x more r .necessities) ≤ suc (length (s .necessities))
+few-rule : (F : Setting) (s : State) (x : ℕ) (more : List Rec) (r : Rule ℕ) → length (applyRule F s x more r .necessities) ≤ suc (length (s .necessities))
 unfolding applyRule applyHere applyPossibility applyNecessity
 few-rule F s x more nothing = omega arith
 few-rule F s x more (down fs) = omega arith
@@ -43,49 +43,49 @@ few-rule F s x more (asNecessary f) = omega arith
 abbrev Stored : State → Type 0
 Stored s = length (s .necessities) ≤ s .steps
 
-stored-checked : (F : Flags) (s : State) → Stored s → Stored (checkForContradictions F s)
+stored-checked : (F : Setting) (s : State) → Stored s → Stored (checkForContradictions F s)
 unfolding checkedForContradictions
 stored-checked F s h = checked-both Stored F s h h
 
-stored-appended : (F : Flags) (s : State) (p : Popped) → Stored s → Stored (appended F s p)
+stored-appended : (F : Setting) (s : State) (p : Popped) → Stored s → Stored (appended F s p)
 unfolding appended apply
 stored-appended F s p h =
     let e = expansion (s .formulas) (nodeAt (s .nodes) (p .node) .formula) in
     omega (arith, h, few-rule F s (p .node) (e .made) (e .rule))
 
-stored-by : (F : Flags) (s : State) (o : Option Popped) → Stored s → Stored (stepBy F s o)
+stored-by : (F : Setting) (s : State) (o : Option Popped) → Stored s → Stored (stepBy F s o)
 unfolding stepBy
 stored-by F s none h = h
 stored-by F s (some p) h = stored-checked F (appended F s p) (stored-appended F s p h)
 
-stored-step : (F : Flags) (s : State) → Stored s → Stored (step F s)
+stored-step : (F : Setting) (s : State) → Stored s → Stored (step F s)
 unfolding step
-stored-step F s h = stored-by F s (pop (s .formulas) (s .nodes) (s .waiting)) h
+stored-step F s h = stored-by F s (pop F (s .formulas) (s .nodes) (s .waiting)) h
 
 abbrev Any : Rec → Type 0
 Any r = Unit {0}
 
 -- what holds of every state of a run over k records
-pub record Fit (F : Flags) (k : ℕ) (s : State) : Type 0 where
+pub record Fit (F : Setting) (k : ℕ) (s : State) : Type 0 where
   pub small : k ≤ mostRecords
   pub bounded : Bounded Any (λ r q. tt) F k s
   pub stored : Stored s
   pub treed : length (s .nodes) ≤ mostIdentifiers → Treed (s .nodes)
 
-room : (s : State) → stops s ≡ false → length (s .nodes) ≤ mostIdentifiers
+room : (F : Setting) (s : State) → stops F s ≡ false → length (s .nodes) ≤ mostIdentifiers
 unfolding stops full
-room s e = ltb-false mostIdentifiers (length (s .nodes)) (or-right (ended s) _ e)
+room F s e = ltb-false mostIdentifiers (length (s .nodes)) (or-right (ended F s) _ e)
 
-pub fit-step : (F : Flags) (k : ℕ) (s : State) → stops s ≡ false → Fit F k s → Fit F k (step F s)
+pub fit-step : (F : Setting) (k : ℕ) (s : State) → stops F s ≡ false → Fit F k s → Fit F k (step F s)
 fit-step F k s e h =
     record {
       small = h .small;
       bounded = bounded-step Any (λ r q. tt) F k s (h .small) e (h .bounded);
       stored = stored-step F s (h .stored);
-      treed = λ l. step-keeps F s .treed (h .treed (room s e)) (omega (arith, l));
+      treed = λ l. step-keeps F s .treed (h .treed (room F s e)) (omega (arith, l));
     }
 
-pub fit-start : (F : Flags) (rs : List Rec) → length rs ≤ mostRecords → WellFormed rs → empty (marks rs) ≡ false → Fit F (length rs) (start F rs)
+pub fit-start : (F : Setting) (rs : List Rec) → length rs ≤ mostRecords → WellFormed rs → empty (marks rs) ≡ false → Fit F (length rs) (start F rs)
 unfolding start begun steps
 fit-start F rs small wf e =
     record {
@@ -100,7 +100,7 @@ pub record Ready (s : State) : Type 0 where
   pub nodes : length (s .nodes) ≤ mostIdentifiers
   pub treed : Treed (s .nodes)
   pub leaves : length (leaves (s .nodes)) ≤ mostIdentifiers
-  pub formulas : length (s .formulas) ≤ 1278
+  pub formulas : length (s .formulas) + 2 ≤ mostFormulas
   pub necessities : length (s .necessities) < mostIdentifiers
   pub worlds : s .graph .worlds < worldLimit
 
@@ -108,12 +108,12 @@ filled : (xs : List ℕ) → empty xs ≡ false → 0 < length xs
 filled [] e = true-false e
 filled (x ∷ xs) e = omega arith
 
-pub ready : (F : Flags) (k : ℕ) (s : State) → Fit F k s → stops s ≡ false → Ready s
+pub ready : (F : Setting) (k : ℕ) (s : State) → Fit F k s → stops F s ≡ false → Ready s
 unfolding stops ended Counted
 ready F k s h e =
-    let l = room s e in
+    let l = room F s e in
     let t = h .treed l in
-    let busy = or-right (s .proved) _ (or-left (ended s) (full s) e) in
+    let busy = or-right (s .proved) _ (or-left (ended F s) (full s) e) in
     let waits = filled (s .waiting) (or-left (empty (s .waiting)) _ busy) in
     let c = h .bounded .counted in
     record {
@@ -126,7 +126,7 @@ ready F k s h e =
     }
 
 -- before its contradictions are checked the tree is one, with room for its leaves
-pub appended-leaves : (F : Flags) (s : State) (p : Popped) → Treed (s .nodes) → length (appended F s p .nodes) ≤ mostIdentifiers → length (leaves (appended F s p .nodes)) ≤ mostIdentifiers
+pub appended-leaves : (F : Setting) (s : State) (p : Popped) → Treed (s .nodes) → length (appended F s p .nodes) ≤ mostIdentifiers → length (leaves (appended F s p .nodes)) ≤ mostIdentifiers
 unfolding appended
 appended-leaves F s p t l =
     let rs = apply F s (p .node) .subtrees in

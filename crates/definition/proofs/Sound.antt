@@ -13,7 +13,7 @@ use Rattle.definition.specs.Limits.{mostIdentifiers}
 use Rattle.definition.specs.Lists.{Each, upFrom, empty}
 use Rattle.definition.specs.Records.{Rec, nobody, isNobody, decode, marks, marksFrom}
 use Rattle.definition.specs.Formula.{formAt}
-use Rattle.definition.specs.Flags.{Flags, flagsOf, partialEquivalence}
+use Rattle.definition.specs.Setting.{Setting, settingOf, partialEquivalence}
 use Rattle.definition.specs.Models.{Model, Has, truth}
 use Rattle.definition.specs.Checks.{Check, refused}
 use Rattle.definition.specs.Graph.{emptyGraph}
@@ -35,10 +35,10 @@ use Rattle.definition.proofs.Accepted.{Accepted, accepted}
 use Rattle.definition.proofs.Invariant.{Inv, inv-checked, inv-appended}
 use Rattle.definition.proofs.Step.{apply-faithful}
 
-module _ (F : Flags) (M : Model) (has : Has F M) (w : ℕ) (begun′ : F .symmetric ≡ true → F .transitive ≡ true → M .reach w w ≡ true) where
+module _ (F : Setting) (M : Model) (has : Has F M) (w : ℕ) (begun′ : F .symmetric ≡ true → F .transitive ≡ true → M .reach w w ≡ true) where
   step-inv : (s : State) → Known (s .nodes) (s .waiting) → Inv F M w s → length (step F s .nodes) ≤ nobody → Inv F M w (step F s)
   unfolding step stepBy
-  step-inv s k i h = go (pop (s .formulas) (s .nodes) (s .waiting)) (pop-out (λ x. x < length (s .nodes)) (s .formulas) (s .nodes) (s .waiting)) h
+  step-inv s k i h = go (pop F (s .formulas) (s .nodes) (s .waiting)) (pop-out (λ x. x < length (s .nodes)) F (s .formulas) (s .nodes) (s .waiting)) h
     where
       go : (o : Option Popped) → Out (λ x. x < length (s .nodes)) (s .waiting) o → length (stepBy F s o .nodes) ≤ nobody → Inv F M w (stepBy F s o)
       go none q l = i
@@ -46,11 +46,11 @@ module _ (F : Flags) (M : Model) (has : Has F M) (w : ℕ) (begun′ : F .symmet
           inv-checked F M w (appended F s p)
           (inv-appended F M w s p i (apply-faithful F M has w begun′ s i (p .node) (q .1 k .0)) (omega (arith, l, checked-length F (appended F s p))))
 
-  pub run-inv : (test : State → Bool) (n : ℕ) (s : State) → Known (s .nodes) (s .waiting) → Inv F M w s → length (steps test n F s .nodes) ≤ nobody →
+  pub run-inv : (test : Setting → State → Bool) (n : ℕ) (s : State) → Known (s .nodes) (s .waiting) → Inv F M w s → length (steps test n F s .nodes) ≤ nobody →
       Inv F M w (steps test n F s)
   unfolding steps
   run-inv test zero s k i h = i
-  run-inv test (suc n) s k i h = go (test s) h (run-inv test n (step F s) (known-step F s k))
+  run-inv test (suc n) s k i h = go (test F s) h (run-inv test n (step F s) (known-step F s k))
     where
       rest : State
       rest = steps test n F (step F s)
@@ -115,7 +115,7 @@ rooted-whole n ns small = go (length ns) refl
     go zero e = base
     go (suc m) e = chain-in alone t 0 Middle 1 (upFrom m 2) slot-middle (base 0) refl (new (suc m) e)
 
-begun-inv : (F : Flags) (M : Model) (w : ℕ) → w < M .size → (rs : List Rec) → WellFormed rs → empty (marks rs) ≡ false →
+begun-inv : (F : Setting) (M : Model) (w : ℕ) → w < M .size → (rs : List Rec) → WellFormed rs → empty (marks rs) ≡ false →
     Each (λ f. truth M (formAt rs f) w ≡ true) (marks rs) → length (begun rs .nodes) ≤ nobody → Inv F M w (begun rs)
 unfolding begun branchNodes
 begun-inv F M w inside rs wf some-marked holds small = go (branchNodes rs) refl (full-branch (marks rs) some-marked)
@@ -150,12 +150,12 @@ begun-inv F M w inside rs wf some-marked holds small = go (branchNodes rs) refl 
           unproved = refl;
         }
 
-partial : (F : Flags) → F .symmetric ≡ true → F .transitive ≡ true → F .reflexive ≡ false → partialEquivalence F ≡ true
+partial : (F : Setting) → F .symmetric ≡ true → F .transitive ≡ true → F .reflexive ≡ false → partialEquivalence F ≡ true
 unfolding partialEquivalence
 partial F s t r = rw (s, t, r) refl
 
 -- the run of a branch
-pub run-sound : (F : Flags) (rs : List Rec) → WellFormed rs → empty (marks rs) ≡ false → (test : State → Bool) (n : ℕ) →
+pub run-sound : (F : Setting) (rs : List Rec) → WellFormed rs → empty (marks rs) ≡ false → (test : Setting → State → Bool) (n : ℕ) →
     length (steps test n F (start F rs) .nodes) ≤ nobody → steps test n F (start F rs) .proved ≡ true → NoModel F rs
 unfolding start
 run-sound F rs wf some-marked test n small proved M has w inside reaching holds =
@@ -183,8 +183,8 @@ pub demand-3 : Demand3
 unfolding answer answerOf outcome outcomeBy outcomeOfRun final
 demand-3 branch flags lent proved = go (refused branch flags (lengthsOf lent)) refl proved
   where
-    F : Flags
-    F = flagsOf flags
+    F : Setting
+    F = settingOf flags
 
     rs : List Rec
     rs = decode branch
@@ -192,11 +192,11 @@ demand-3 branch flags lent proved = go (refused branch flags (lengthsOf lent)) r
     z : State
     z = final F rs
 
-    run : Accepted branch flags (lengthsOf lent) → (b : Bool) → full z ≡ b → Proved (answerOf (cond b Full (Ended z))) → NoModel F rs
+    run : Accepted branch flags (lengthsOf lent) → (b : Bool) → full z ≡ b → Proved (answerOf (settingOf flags) (cond b Full (Ended z))) → NoModel F rs
     run a true e p = absurd p
     run a false e p =
         run-sound F rs (λ i h. a .records i h .links) (a .marked) stops (suc mostIdentifiers) (omega (arith, not-full z e)) p
 
-    go : (o : Option Check) → refused branch flags (lengthsOf lent) ≡ o → Proved (answerOf (outcomeBy branch flags o)) → NoModel F rs
+    go : (o : Option Check) → refused branch flags (lengthsOf lent) ≡ o → Proved (answerOf (settingOf flags) (outcomeBy branch flags o)) → NoModel F rs
     go (some c) e p = absurd p
     go none e p = run (accepted branch flags (lengthsOf lent) e) (full z) refl p

@@ -11,7 +11,7 @@ use borrow.Author.Tests.{ltb-true, ltb-false, eqb-true}
 use lib.ListN.{length}
 use Rattle.definition.specs.Lists.{Each, any, elem, filter, empty}
 use Rattle.definition.specs.Records.{nobody, Rec}
-use Rattle.definition.specs.Flags.{Flags}
+use Rattle.definition.specs.Setting.{Setting}
 use Rattle.definition.specs.Graph.{Graph}
 use Rattle.definition.specs.Tree.{Node, Place, Root, Left, Middle, Right, Unplaced, Children, nodeAt, isLeaf, only, leavesBelow, leaves, path}
 use Rattle.definition.specs.Rules.{Rule, nothing, down, split, asPossible, asNecessary, expansion}
@@ -243,7 +243,7 @@ module _ (P : Necessity → Type 0) (visits : (n : Necessity) (vs : List ℕ) �
       let f : Necessity → Necessity = λ n. cond (isReapplied t k n) (visiting t g n) n in
       each-reverse P (map f ns) (each-of-map P f ns (each-map {Q = λ n. P (f n)} (λ n p. cond-both P (isReapplied t k n) (visiting t g n) n (visiting-stored t g n p) p) ns h))
 
-  pub rule-stored : (F : Flags) (s : State) (x : ℕ) (more : List Rec) (rule : Rule ℕ) → Each P (s .necessities) →
+  pub rule-stored : (F : Setting) (s : State) (x : ℕ) (more : List Rec) (rule : Rule ℕ) → Each P (s .necessities) →
       ((n : Necessity) → n .spawner ≡ x → n .leaves ≡ filter (λ leaf. elem x (path (s .nodes) leaf)) (leaves (s .nodes)) → P n) → Each P (applyRule F s x more rule .necessities)
   unfolding applyRule applyHere applyPossibility applyNecessity
   rule-stored F s x more nothing h k = h
@@ -264,7 +264,7 @@ pub record Rooted (t : List Node) (n : Necessity) : Type 0 where
 abbrev pub AllRooted : State → Type 0
 AllRooted s = length (s .nodes) ≤ nobody → Each (Rooted (s .nodes)) (s .necessities)
 
-rooted-checked : (F : Flags) (s : State) → AllRooted s → AllRooted (checkForContradictions F s)
+rooted-checked : (F : Setting) (s : State) → AllRooted s → AllRooted (checkForContradictions F s)
 unfolding checkedForContradictions
 rooted-checked F s h =
     checked-both AllRooted F s h (λ few.
@@ -276,7 +276,7 @@ rooted-checked F s h =
       leaves = each-map {Q = λ y. y < length (markAll (s .nodes) found)} (λ y (l : y < length (s .nodes)). omega (arith, l, size)) (n .leaves) (k .leaves);
     }) (s .necessities) (h (omega (arith, few, size))))
 
-module _ (F : Flags) (k : ℕ) (s : State) (p : Popped) (h : Fit F k s) (e : stops s ≡ false) (x : p .node < length (s .nodes)) where
+module _ (F : Setting) (k : ℕ) (s : State) (p : Popped) (h : Fit F k s) (e : stops F s ≡ false) (x : p .node < length (s .nodes)) where
   rooted-appended : AllRooted s → AllRooted (appended F s p)
   unfolding appended apply runsThrough
   rooted-appended a few =
@@ -299,13 +299,13 @@ module _ (F : Flags) (k : ℕ) (s : State) (p : Popped) (h : Fit F k s) (e : sto
         leaves = rw d (filter-keeps (λ y. y < length t) _ (leaves t) (leaves-within t (r .treed)));
       }))
 
-pub rooted-start : (F : Flags) (rs : List Rec) → AllRooted (start F rs)
+pub rooted-start : (F : Setting) (rs : List Rec) → AllRooted (start F rs)
 unfolding start begun
 rooted-start F rs = rooted-checked F (begun rs) (λ few. tt)
 
-pub rooted-step : (F : Flags) (k : ℕ) (s : State) → Fit F k s → stops s ≡ false → AllRooted s → AllRooted (step F s)
+pub rooted-step : (F : Setting) (k : ℕ) (s : State) → Fit F k s → stops F s ≡ false → AllRooted s → AllRooted (step F s)
 unfolding step stepBy
-rooted-step F k s h e a = go (pop (s .formulas) (s .nodes) (s .waiting)) (pop-out (λ y. y < length (s .nodes)) (s .formulas) (s .nodes) (s .waiting))
+rooted-step F k s h e a = go (pop F (s .formulas) (s .nodes) (s .waiting)) (pop-out (λ y. y < length (s .nodes)) F (s .formulas) (s .nodes) (s .waiting))
   where
     go : (o : Option Popped) → Gone (λ y. y < length (s .nodes)) (s .waiting) o → AllRooted (stepBy F s o)
     go none d = a

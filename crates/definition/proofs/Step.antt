@@ -9,7 +9,7 @@ use native.Mathlib.Omega.{arith}
 use lib.ListN.{length, length-append, length-reverse}
 use Rattle.definition.specs.Lists.{Each, elem, filter}
 use Rattle.definition.specs.Records.{Rec, nobody}
-use Rattle.definition.specs.Flags.{Flags}
+use Rattle.definition.specs.Setting.{Setting}
 use Rattle.definition.specs.Models.{Model, Has}
 use Rattle.definition.specs.Graph.{Graph, edge, initializeGraphIfNeeded, fork}
 use Rattle.definition.specs.Tree.{Node, newNode, nodeAt, leaves, path}
@@ -35,7 +35,7 @@ numbered-turned : (n : ℕ) (s : Subtree) → numbered n (turned s) ≡ numbered
 unfolding numbered turned
 numbered-turned n s = rw (length-reverse (s .left), length-reverse (s .middle), length-reverse (s .right)) refl
 
-module _ (F : Flags) (M : Model) (has : Has F M) (w : ℕ) (begun : F .symmetric ≡ true → F .transitive ≡ true → M .reach w w ≡ true)
+module _ (F : Setting) (M : Model) (has : Has F M) (w : ℕ) (begun : F .symmetric ≡ true → F .transitive ≡ true → M .reach w w ≡ true)
     (s : State) (i : Inv F M w s) (x : ℕ) where
   abbrev t : List Node
   t = s .nodes

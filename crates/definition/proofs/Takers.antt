@@ -10,7 +10,7 @@ use borrow.Author.Tests.{ltb-true, ltb-false}
 use lib.ListN.{length, length-append, length-map, List·getD-eq-default}
 use Rattle.definition.specs.Lists.{Each, any, filter, elem}
 use Rattle.definition.specs.Records.{nobody, isNobody}
-use Rattle.definition.specs.Flags.{Flags}
+use Rattle.definition.specs.Setting.{Setting}
 use Rattle.definition.specs.Tree.{Node, Place, Left, Middle, Right, nodeAt, placedBelow, withChild, link, linkChain, change, Children, isLeaf, isContradictory, leaves, path}
 use Rattle.definition.specs.Subtree.{Subtree, Targeted, flat, numbered, copied, appendSubtreeOnLeaf, pushSubtree, appendCopies, appendOn, takes, appendSubtree, appendLogicRuleResult}
 use Rattle.definition.specs.Queue.{Popped}
@@ -194,7 +194,7 @@ pub grown-append : (t ns : List Node) → Grown t (t ++ ns)
 grown-append t ns = record { longer = ext-append t ns .longer; stems = λ z h. ap stem (node-append t ns z h) }
 
 -- every node that a step places stands below another, or below an open leaf
-pub between-hung : (F : Flags) (s : State) (x : ℕ) (q : List ℕ) (before after : List Targeted) → apply F s x .subtrees ≡ before ++ after →
+pub between-hung : (F : Setting) (s : State) (x : ℕ) (q : List ℕ) (before after : List Targeted) → apply F s x .subtrees ≡ before ++ after →
     Treed (s .nodes) → length (between F s x q before) ≤ nobody → Hung (s .nodes) (between F s x q before)
 unfolding placed
 between-hung F s x q before after e r few =
@@ -228,7 +228,7 @@ pub new-high : (t₀ t : List Node) → Grown t₀ t → (z : ℕ) → In (spots
 new-high t₀ t g z i o =
     ⊎-elim (λ q. true-false (sym i ∙ ap (λ (n : Stem). placed (n .place)) (g .stems z (ltb-true z (length t₀) q)) ∙ o)) (λ q. ltb-false z (length t₀) q) (either (ltb z (length t₀)))
 
-pub appended-new : (F : Flags) (s : State) (p : Popped) → Treed (s .nodes) → length (appended F s p .nodes) ≤ nobody → (z : ℕ) → In (spots (appended F s p .nodes)) z → Out (spots (s .nodes)) z →
+pub appended-new : (F : Setting) (s : State) (p : Popped) → Treed (s .nodes) → length (appended F s p .nodes) ≤ nobody → (z : ℕ) → In (spots (appended F s p .nodes)) z → Out (spots (s .nodes)) z →
     NewPath (s .nodes) (appended F s p .nodes) z
 unfolding appended
 appended-new F s p r few z i o =

@@ -9,7 +9,7 @@ use borrow.Author.Tests.{eqb-false}
 use lib.ListN.{length}
 use Rattle.definition.specs.Lists.{Each, filter}
 use Rattle.definition.specs.Records.{nobody, isNobody, Non, Rec, numberOf, is, arity, recAt, formulaOf}
-use Rattle.definition.specs.Flags.{Flags}
+use Rattle.definition.specs.Setting.{Setting}
 use Rattle.definition.specs.Tree.{Node, nodeAt, leaves}
 use Rattle.definition.specs.Contradiction.{pairs}
 use Rattle.definition.specs.Subtree.{Subtree, Targeted, flat, turned, numbered, copied, appendSubtreeOnLeaf, pushSubtree, appendCopies, appendOn, takes, appendSubtree, appendLogicRuleResult}
@@ -53,17 +53,17 @@ result-behind (r ∷ rs) t q =
     (one .0 ++ rest .0, rest .1 ∙ ap (λ (w : List ℕ). w ++ rest .0) (one .1) ∙ append-assoc q (one .0) (rest .0))
 
 -- what a step queues stands behind the others
-pub queued : (F : Flags) (s : State) (p : Popped) → (more : List ℕ) × (appended F s p .waiting ≡ p .others ++ more)
+pub queued : (F : Setting) (s : State) (p : Popped) → (more : List ℕ) × (appended F s p .waiting ≡ p .others ++ more)
 unfolding appended
 queued F s p = result-behind (apply F s (p .node) .subtrees) (s .nodes ++ apply F s (p .node) .nodes) (p .others)
 
 -- appended records change no class: links go to earlier records
-module _ (rs more : List Rec) (wf : WellFormed rs) where
-  record-class : (i : ℕ) → i < length rs → priorityOf (rs ++ more) (recAt rs i) ≡ priorityOf rs (recAt rs i)
+module _ (F : Setting) (rs more : List Rec) (wf : WellFormed rs) where
+  record-class : (i : ℕ) → i < length rs → priorityOf F (rs ++ more) (recAt rs i) ≡ priorityOf F rs (recAt rs i)
   unfolding priorityOf arity numberOf
   record-class i h = ⊎-elim (λ q. let l = link-same rs more wf Non i h q in rw (q, l .0 .1)) (λ q. rw q) (either (is Non (recAt rs i)))
 
-  formula-class : (f : ℕ) → Number (length rs) f → priorityOf (rs ++ more) (formulaOf (rs ++ more) f) ≡ priorityOf rs (formulaOf rs f)
+  formula-class : (f : ℕ) → Number (length rs) f → priorityOf F (rs ++ more) (formulaOf (rs ++ more) f) ≡ priorityOf F rs (formulaOf rs f)
   unfolding formulaOf priorityOf numberOf
   formula-class f n =
       ⊎-elim (λ q. rw q refl) (λ q.
@@ -74,21 +74,21 @@ map-like : (f g : ℕ → ℕ) (q : List ℕ) → Each (λ x. f x ≡ g x) q →
 map-like f g [] h = refl
 map-like f g (x ∷ q) h = rw (h .0, map-like f g q (h .1))
 
-pub classes-appended : (F : Flags) (k : ℕ) (s : State) (p : Popped) → Fit F k s → (q : List ℕ) → Each (λ x. x < length (s .nodes)) q →
-    map (getNodePriority (appended F s p .formulas) (appended F s p .nodes)) q ≡ map (getNodePriority (s .formulas) (s .nodes)) q
+pub classes-appended : (F : Setting) (k : ℕ) (s : State) (p : Popped) → Fit F k s → (q : List ℕ) → Each (λ x. x < length (s .nodes)) q →
+    map (getNodePriority F (appended F s p .formulas) (appended F s p .nodes)) q ≡ map (getNodePriority F (s .formulas) (s .nodes)) q
 unfolding appended getNodePriority
 classes-appended F k s p fit q known =
     let z = fit .bounded .sizes in
     let g = appended-grown F s p in
-    map-like _ _ q (each-map {Q = λ x. getNodePriority (appended F s p .formulas) (appended F s p .nodes) x ≡ getNodePriority (s .formulas) (s .nodes) x}
+    map-like _ _ q (each-map {Q = λ x. getNodePriority F (appended F s p .formulas) (appended F s p .nodes) x ≡ getNodePriority F (s .formulas) (s .nodes) x}
     (λ x (l : x < length (s .nodes)).
-    ap (λ (f : ℕ). priorityOf (appended F s p .formulas) (formulaOf (appended F s p .formulas) f)) (ap (λ (n : Stem). n .formula) (g .stems x l))
-    ∙ formula-class (s .formulas) (apply F s (p .node) .formulas) (z .wf) (nodeAt (s .nodes) x .formula) (z .labels x l .formula)) q known)
+    ap (λ (f : ℕ). priorityOf F (appended F s p .formulas) (formulaOf (appended F s p .formulas) f)) (ap (λ (n : Stem). n .formula) (g .stems x l))
+    ∙ formula-class F (s .formulas) (apply F s (p .node) .formulas) (z .wf) (nodeAt (s .nodes) x .formula) (z .labels x l .formula)) q known)
 
-pub classes-checked : (F : Flags) (s : State) (q : List ℕ) →
-    map (getNodePriority (checkForContradictions F s .formulas) (checkForContradictions F s .nodes)) q ≡ map (getNodePriority (s .formulas) (s .nodes)) q
+pub classes-checked : (F : Setting) (s : State) (q : List ℕ) →
+    map (getNodePriority F (checkForContradictions F s .formulas) (checkForContradictions F s .nodes)) q ≡ map (getNodePriority F (s .formulas) (s .nodes)) q
 unfolding checkedForContradictions getNodePriority
 classes-checked F s q =
-    checked-both (λ (z : State). map (getNodePriority (z .formulas) (z .nodes)) q ≡ map (getNodePriority (s .formulas) (s .nodes)) q) F s refl
-    (map-like _ _ q (each-any (λ x. getNodePriority (s .formulas) (checkedForContradictions s .nodes) x ≡ getNodePriority (s .formulas) (s .nodes) x)
-    (λ x. ap (λ (f : ℕ). priorityOf (s .formulas) (formulaOf (s .formulas) f)) (mark-keeps (λ (n : Node). n .formula) (λ j n. refl) (pairs (s .formulas) (s .nodes) (leaves (s .nodes))) (s .nodes) x)) q))
+    checked-both (λ (z : State). map (getNodePriority F (z .formulas) (z .nodes)) q ≡ map (getNodePriority F (s .formulas) (s .nodes)) q) F s refl
+    (map-like _ _ q (each-any (λ x. getNodePriority F (s .formulas) (checkedForContradictions s .nodes) x ≡ getNodePriority F (s .formulas) (s .nodes) x)
+    (λ x. ap (λ (f : ℕ). priorityOf F (s .formulas) (formulaOf (s .formulas) f)) (mark-keeps (λ (n : Node). n .formula) (λ j n. refl) (pairs (s .formulas) (s .nodes) (leaves (s .nodes))) (s .nodes) x)) q))

@@ -7,7 +7,7 @@ use lib.Dec.{leb}
 use lib.ListN.{length}
 use Rattle.definition.specs.Limits.{worldLimit}
 use Rattle.definition.specs.Records.{decode}
-use Rattle.definition.specs.Flags.{flagsOf}
+use Rattle.definition.specs.Setting.{Setting, settingOf}
 use Rattle.definition.specs.Checks.{Lengths, Check, refused}
 use Rattle.definition.specs.Run.{State, full, final}
 use Rattle.definition.specs.Trays.{Trays, traysOf, zeroTrays, laidOver}
@@ -23,14 +23,14 @@ outcomeOfRun s = cond (full s) Full (Ended s)
 
 unfoldable pub outcomeBy : List ℕ → ℕ → Option Check → Outcome
 outcomeBy bytes flags (some c) = Refused c
-outcomeBy bytes flags none = outcomeOfRun (final (flagsOf flags) (decode bytes))
+outcomeBy bytes flags none = outcomeOfRun (final (settingOf flags) (decode bytes))
 
 unfoldable pub outcome : List ℕ → ℕ → Lengths → Outcome
 outcome bytes flags lent = outcomeBy bytes flags (refused bytes flags lent)
 
 -- "Late is set at the end if 25 worlds exist, even beside proved"
-unfoldable pub late : State → Bool
-late s = leb worldLimit (s .graph .worlds)
+unfoldable pub late : Setting → State → Bool
+late F s = leb worldLimit (s .graph .worlds)
 
 -- "one verdict or one refusal": a refusal's number and record number; or
 -- "proved, late, and the counts of identifiers, formulas (input and made), worlds and steps"
@@ -46,14 +46,14 @@ pub data Answer : Type 0 where
   refusal : ℕ → ℕ → Answer
   verdict : Verdict → Answer
 
-unfoldable pub answerOf : Outcome → Answer
-answerOf (Refused c) = refusal (c .number) (c .place)
-answerOf Full = refusal 12 0
-answerOf (Ended s) =
+unfoldable pub answerOf : Setting → Outcome → Answer
+answerOf F (Refused c) = refusal (c .number) (c .place)
+answerOf F Full = refusal 12 0
+answerOf F (Ended s) =
     verdict
     (record {
       proved = s .proved;
-      late = late s;
+      late = late F s;
       identifiers = length (s .nodes);
       formulas = length (s .formulas);
       worlds = s .graph .worlds;
@@ -71,7 +71,7 @@ lengthsOf t = record { nodes = length (t .nodes); formulas = length (t .formulas
 
 -- the call's answer, and the trays that it leaves
 unfoldable pub answer : List ℕ → ℕ → Trays → Answer
-answer branch flags lent = answerOf (outcome branch flags (lengthsOf lent))
+answer branch flags lent = answerOf (settingOf flags) (outcome branch flags (lengthsOf lent))
 
 unfoldable pub traysLeft : List ℕ → ℕ → Trays → Trays
 traysLeft branch flags lent = traysAfter (outcome branch flags (lengthsOf lent)) lent

@@ -8,7 +8,7 @@ use Prim.Native.Nat.{ℕ, _<_}
 use Rattle.definition.specs.Lists.{Each}
 use Rattle.definition.specs.Records.{Rec, decode, marks}
 use Rattle.definition.specs.Formula.{formAt}
-use Rattle.definition.specs.Flags.{Flags, flagsOf, partialEquivalence}
+use Rattle.definition.specs.Setting.{Setting, settingOf, partialEquivalence}
 use Rattle.definition.specs.Models.{Model, Has, truth}
 use Rattle.definition.specs.Trays.{Trays}
 use Rattle.definition.specs.Call.{Answer, refusal, verdict, answer}
@@ -18,15 +18,15 @@ Proved (refusal number place) = ⊥
 Proved (verdict v) = v .proved ≡ true
 
 -- the world w, where the flags ask for it, reaches some world
-abbrev pub Reaching : Flags → Model → ℕ → Type 0
+abbrev pub Reaching : Setting → Model → ℕ → Type 0
 Reaching F M w = partialEquivalence F ≡ true → (v : ℕ) × (v < M .size) × (M .reach w v ≡ true)
 
 -- the world w makes every formula of the branch true
 abbrev pub Satisfied : List Rec → Model → ℕ → Type 0
 Satisfied rs M w = Each (λ f. truth M (formAt rs f) w ≡ true) (marks rs)
 
-abbrev pub NoModel : Flags → List Rec → Type 0
+abbrev pub NoModel : Setting → List Rec → Type 0
 NoModel F rs = (M : Model) → Has F M → (w : ℕ) → w < M .size → Reaching F M w → Satisfied rs M w → ⊥
 
 abbrev pub Demand3 : Type 0
-Demand3 = (branch : List ℕ) (flags : ℕ) (lent : Trays) → Proved (answer branch flags lent) → NoModel (flagsOf flags) (decode branch)
+Demand3 = (branch : List ℕ) (flags : ℕ) (lent : Trays) → Proved (answer branch flags lent) → NoModel (settingOf flags) (decode branch)

@@ -8,7 +8,7 @@ use Prim.Native.Nat.{ℕ, _<_}
 use lib.Dec.{eqb}
 use Rattle.definition.specs.Lists.{any, find}
 use Rattle.definition.specs.Records.{Atomic, Rec, is, formulaOf}
-use Rattle.definition.specs.Flags.{Flags, partialEquivalence}
+use Rattle.definition.specs.Setting.{Setting, partialEquivalence}
 use Rattle.definition.specs.Models.{Model, Has}
 use Rattle.definition.specs.Graph.{edge, initializeGraphIfNeeded}
 use Rattle.definition.specs.Tree.{Node, nodeAt, leaves, path}
@@ -24,10 +24,10 @@ saysAtom rs t xs v a =
 
 -- symmetric and transitive without reflexive: a fork on another path gives world 0 an edge to itself, which the necessities of this path need not have met
 -- (Non q, Or of Necessary q and Possible p). So there the model has edges only if a world besides 0 occurs on the path
-unfoldable pub keepsEdges : Flags → List Node → List ℕ → Bool
+unfoldable pub keepsEdges : Setting → List Node → List ℕ → Bool
 keepsEdges F t xs = not (partialEquivalence F) || any (λ x. not (eqb (nodeAt t x .world) 0)) xs
 
-unfoldable pub readOff : Flags → State → ℕ → Model
+unfoldable pub readOff : Setting → State → ℕ → Model
 readOff F s leaf =
     let t = s .nodes in
     let g = initializeGraphIfNeeded F (s .graph) in
@@ -43,7 +43,7 @@ unfoldable pub firstOpen : State → Option ℕ
 firstOpen s = find (λ leaf. not (isPair (getContradictoryNodeIds (s .formulas) (s .nodes) (path (s .nodes) leaf)))) (leaves (s .nodes))
 
 -- leaf is the first open one, and the model read off its path has the flagged properties and makes every formula of the branch rs true at world 0
-pub record Countermodel (F : Flags) (rs : List Rec) (s : State) (leaf : ℕ) : Type 0 where
+pub record Countermodel (F : Setting) (rs : List Rec) (s : State) (leaf : ℕ) : Type 0 where
   pub first : firstOpen s ≡ some leaf
   pub has : Has F (readOff F s leaf)
   pub worldZero : 0 < readOff F s leaf .size

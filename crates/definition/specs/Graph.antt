@@ -5,7 +5,7 @@ use Prim.Native.Nat.{ℕ, suc}
 use lib.Dec.{eqb}
 use lib.ListN.{getD}
 use Rattle.definition.specs.Lists.{any, below, filter}
-use Rattle.definition.specs.Flags.{Flags}
+use Rattle.definition.specs.Setting.{Setting}
 
 -- row u tells which worlds u reaches
 pub record Graph : Type 0 where
@@ -37,14 +37,14 @@ unfoldable pub addMissingTransitiveVertices : Graph → Graph
 addMissingTransitiveVertices g = graphOf (g .worlds) (λ u w. edge g u w || any (paired g u w) (below (g .worlds)))
 
 -- "Reflexive, symmetric, transitive, in that order if flagged"; "No scan is repeated"
-unfoldable pub addMissingGraphVertices : Flags → Graph → Graph
+unfoldable pub addMissingGraphVertices : Setting → Graph → Graph
 addMissingGraphVertices F g =
     let r = cond (F .reflexive) (addMissingReflexiveVertices g) g in
     let s = cond (F .symmetric) (addMissingSymmetricVertices r) r in
     cond (F .transitive) (addMissingTransitiveVertices s) s
 
 -- "The first rule that acts as Possible or Necessary (..) puts world 0 in the graph and adds missing edges"
-unfoldable pub initializeGraphIfNeeded : Flags → Graph → Graph
+unfoldable pub initializeGraphIfNeeded : Setting → Graph → Graph
 initializeGraphIfNeeded F g = cond (eqb (g .worlds) 0) (addMissingGraphVertices F (graphOf 1 (λ u v. false))) g
 
 -- "A fork is the largest index plus one over the whole graph": the worlds are the numbers below their count
@@ -52,7 +52,7 @@ abbrev pub forkedWorld : Graph → ℕ
 forkedWorld g = g .worlds
 
 -- "The edge from the current world comes first, then missing edges"
-unfoldable pub fork : Flags → Graph → ℕ → Graph
+unfoldable pub fork : Setting → Graph → ℕ → Graph
 fork F g u =
     addMissingGraphVertices F (graphOf (suc (g .worlds)) (λ a b. edge g a b || (eqb a u && eqb b (forkedWorld g))))
 

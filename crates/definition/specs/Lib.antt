@@ -3,7 +3,7 @@ pub mod Lists
 pub mod Records
 pub mod Checks
 pub mod Formula
-pub mod Flags
+pub mod Setting
 pub mod Models
 pub mod Graph
 pub mod Tree

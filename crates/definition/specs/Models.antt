@@ -3,7 +3,7 @@ use mathlib.Core.Bool.{Bool, true, not, _&&_, _||_, Bool·beq}
 use mathlib.Core.Path.{_≡_}
 use Prim.Native.Nat.{ℕ, _<_}
 use Rattle.definition.specs.Lists.{any, all, below}
-use Rattle.definition.specs.Flags.{Flags}
+use Rattle.definition.specs.Setting.{Setting}
 use Rattle.definition.specs.Formula.{Form, atom, non, and, or, imply, biImply, strictImply, possible, necessary}
 
 -- "Finitely many worlds", the numbers below size; "a set of pairs of them"; "a truth value per world and atom number".
@@ -26,7 +26,7 @@ truth M (possible p) w = any (λ v. M .reach w v && truth M p v) (below (M .size
 truth M (necessary p) w = all (λ v. not (M .reach w v) || truth M p v) (below (M .size))
 
 -- "A model has the flagged properties if it has each one whose flag is set"
-pub record Has (F : Flags) (M : Model) : Type 0 where
+pub record Has (F : Setting) (M : Model) : Type 0 where
   pub reflexive : F .reflexive ≡ true → (u : ℕ) → u < M .size → M .reach u u ≡ true
   pub symmetric : F .symmetric ≡ true → (u v : ℕ) → u < M .size → v < M .size → M .reach u v ≡ true → M .reach v u ≡ true
   pub transitive :

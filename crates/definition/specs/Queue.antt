@@ -7,6 +7,7 @@ use lib.Dec.{eqb}
 use lib.ListN.{getD}
 use Rattle.definition.specs.Lists.{orElse}
 use Rattle.definition.specs.Records.{Non, Rec, numberOf, is, recAt, formulaOf}
+use Rattle.definition.specs.Setting.{Setting}
 use Rattle.definition.specs.Tree.{Node, nodeAt}
 
 -- 0 is first, 1 in the middle, 2 last: Atomic, Non (see below), And, Or, Imply, BiImply, StrictImply, Possible, Necessary
@@ -22,12 +23,12 @@ abbrev pub classes : List ℕ
 classes = 0 ∷ 1 ∷ 2 ∷ []
 
 -- "Atomic and Non Atomic last; Or, Non And, Imply, BiImply, Non BiImply in the middle; all others, comments included, first"
-unfoldable pub priorityOf : List Rec → Rec → ℕ
-priorityOf rs r =
+unfoldable pub priorityOf : Setting → List Rec → Rec → ℕ
+priorityOf F rs r =
     cond (is Non r) (getD prioritiesOfNon (numberOf (recAt rs (r .left) .kind)) 0) (getD priorities (numberOf (r .kind)) 0)
 
-unfoldable pub getNodePriority : List Rec → List Node → ℕ → ℕ
-getNodePriority rs t x = priorityOf rs (formulaOf rs (nodeAt t x .formula))
+unfoldable pub getNodePriority : Setting → List Rec → List Node → ℕ → ℕ
+getNodePriority F rs t x = priorityOf F rs (formulaOf rs (nodeAt t x .formula))
 
 -- a node that is taken, and those that go on waiting
 pub record Popped : Type 0 where
@@ -42,12 +43,12 @@ popFirst p before (x ∷ xs) =
     cond (p x) (some (record { node = x; others = before ++ xs })) rest
 
 -- the classes one after the other
-unfoldable pub popClass : List Rec → List Node → List ℕ → List ℕ → Option Popped
-popClass rs t q [] = none
-popClass rs t q (c ∷ cs) =
-    let rest = popClass rs t q cs in
-    orElse (popFirst (λ x. eqb (getNodePriority rs t x) c) [] q) rest
+unfoldable pub popClass : Setting → List Rec → List Node → List ℕ → List ℕ → Option Popped
+popClass F rs t q [] = none
+popClass F rs t q (c ∷ cs) =
+    let rest = popClass F rs t q cs in
+    orElse (popFirst (λ x. eqb (getNodePriority F rs t x) c) [] q) rest
 
 -- "The first waiting node of the most urgent class is taken out"
-unfoldable pub pop : List Rec → List Node → List ℕ → Option Popped
-pop rs t q = popClass rs t q classes
+unfoldable pub pop : Setting → List Rec → List Node → List ℕ → Option Popped
+pop F rs t q = popClass F rs t q classes

@@ -6,6 +6,7 @@ use lib.ListN.{replicate, drop}
 use Rattle.definition.specs.Limits.{nodeTrayLength, formulaTrayLength, edgeTrayLength}
 use Rattle.definition.specs.Lists.{upFrom}
 use Rattle.definition.specs.Checks.{Lengths}
+use Rattle.definition.specs.Setting.{settingOf}
 use Rattle.definition.specs.Call.{refusal, answerOf, outcome}
 use Rattle.definition.specs.Cases.{rec, bytes}
 
@@ -72,4 +73,4 @@ table =
     ∷ []
 
 abbrev pub Refusals : Type 0
-Refusals = map (λ (b : Bad). answerOf (outcome (bytes (b .records)) (b .flags) (b .lent))) table ≡ map (λ (b : Bad). refusal (b .number) (b .place)) table
+Refusals = map (λ (b : Bad). answerOf (settingOf (b .flags)) (outcome (bytes (b .records)) (b .flags) (b .lent))) table ≡ map (λ (b : Bad). refusal (b .number) (b .place)) table

@@ -8,7 +8,7 @@ use lib.ListN.{length}
 use Rattle.definition.specs.Limits.{mostIdentifiers, worldLimit}
 use Rattle.definition.specs.Lists.{upFrom, below, all, elem, filter, empty}
 use Rattle.definition.specs.Records.{Rec, marks, nobody}
-use Rattle.definition.specs.Flags.{Flags}
+use Rattle.definition.specs.Setting.{Setting}
 use Rattle.definition.specs.Graph.{Graph, emptyGraph, initializeGraphIfNeeded, forkedWorld, fork}
 use Rattle.definition.specs.Tree.{Node, Root, Middle, newNode, nodeAt, placedBelow, linkChain, leaves, path}
 use Rattle.definition.specs.Rules.{Rule, nothing, down, split, asPossible, asNecessary, expansion}
@@ -47,7 +47,7 @@ applyHere s x more fs =
     }
 
 -- "Possible": "The formula takes its identifier before its comment; the comment stands above", "A comment has world 0"; then the stored necessities
-unfoldable pub applyPossibility : Flags → State → ℕ → List Rec → ℕ → LogicRuleResult
+unfoldable pub applyPossibility : Setting → State → ℕ → List Rec → ℕ → LogicRuleResult
 applyPossibility F s x more f =
     let g = initializeGraphIfNeeded F (s .graph) in
     let v = forkedWorld g in
@@ -64,7 +64,7 @@ applyPossibility F s x more f =
     }
 
 -- "Necessary": "Its path leaves are stored"
-unfoldable pub applyNecessity : Flags → State → ℕ → List Rec → ℕ → LogicRuleResult
+unfoldable pub applyNecessity : Setting → State → ℕ → List Rec → ℕ → LogicRuleResult
 applyNecessity F s x more f =
     let t = s .nodes in
     let g = initializeGraphIfNeeded F (s .graph) in
@@ -73,7 +73,7 @@ applyNecessity F s x more f =
     let r = reapplyNecessity t g none (length t) n in
     record { formulas = more; nodes = r .nodes; graph = g; necessities = visiting t g n ∷ s .necessities; subtrees = r .subtrees }
 
-unfoldable pub applyRule : Flags → State → ℕ → List Rec → Rule ℕ → LogicRuleResult
+unfoldable pub applyRule : Setting → State → ℕ → List Rec → Rule ℕ → LogicRuleResult
 applyRule F s x more nothing = applyHere s x more (withMiddle [])
 applyRule F s x more (down fs) = applyHere s x more (withMiddle fs)
 applyRule F s x more (split fs gs) = applyHere s x more (withLeftRight fs gs)
@@ -81,7 +81,7 @@ applyRule F s x more (asPossible f) = applyPossibility F s x more f
 applyRule F s x more (asNecessary f) = applyNecessity F s x more f
 
 -- the rule of node x
-unfoldable pub apply : Flags → State → ℕ → LogicRuleResult
+unfoldable pub apply : Setting → State → ℕ → LogicRuleResult
 apply F s x =
     let e = expansion (s .formulas) (nodeAt (s .nodes) x .formula) in
     applyRule F s x (e .made) (e .rule)
@@ -101,11 +101,11 @@ checkedForContradictions s =
     }
 
 -- "8 skip contradiction checks"
-unfoldable pub checkForContradictions : Flags → State → State
+unfoldable pub checkForContradictions : Setting → State → State
 checkForContradictions F s = cond (F .skip) s (checkedForContradictions s)
 
 -- "It takes one node, applies its rule, places the result, checks contradictions, then queues the result": all but the check
-unfoldable pub appended : Flags → State → Popped → State
+unfoldable pub appended : Setting → State → Popped → State
 appended F s taken =
     let r = apply F s (taken .node) in
     let p = appendLogicRuleResult (s .nodes ++ r .nodes) (taken .others) (r .subtrees) in
@@ -119,37 +119,37 @@ appended F s taken =
       steps = suc (s .steps);
     }
 
-unfoldable pub stepBy : Flags → State → Option Popped → State
+unfoldable pub stepBy : Setting → State → Option Popped → State
 stepBy F s none = s
 stepBy F s (some taken) = checkForContradictions F (appended F s taken)
 
-unfoldable pub step : Flags → State → State
-step F s = stepBy F s (pop (s .formulas) (s .nodes) (s .waiting))
+unfoldable pub step : Setting → State → State
+step F s = stepBy F s (pop F (s .formulas) (s .nodes) (s .waiting))
 
 -- "A step is done while a node waits, proved is false and fewer than 25 worlds exist": otherwise the run has ended
-unfoldable pub ended : State → Bool
-ended s = s .proved || (empty (s .waiting) || leb worldLimit (s .graph .worlds))
+unfoldable pub ended : Setting → State → Bool
+ended F s = s .proved || (empty (s .waiting) || leb worldLimit (s .graph .worlds))
 
 -- "the run (..) issues more than 512 identifiers"
 unfoldable pub full : State → Bool
 full s = ltb mostIdentifiers (length (s .nodes))
 
 -- at most n steps, while none of the states stops
-unfoldable pub steps : (State → Bool) → ℕ → Flags → State → State
+unfoldable pub steps : (Setting → State → Bool) → ℕ → Setting → State → State
 steps stops zero F s = s
 steps stops (suc n) F s =
     let rest = steps stops n F (step F s) in
-    cond (stops s) s rest
+    cond (stops F s) s rest
 
 -- the run as far as it is needed: a state that is full is not gone on from
-unfoldable pub stops : State → Bool
-stops s = ended s || full s
+unfoldable pub stops : Setting → State → Bool
+stops F s = ended F s || full s
 
-abbrev pub run : ℕ → Flags → State → State
+abbrev pub run : ℕ → Setting → State → State
 run = steps stops
 
 -- the paper's own loop, which knows no 512
-abbrev pub unlimitedRun : ℕ → Flags → State → State
+abbrev pub unlimitedRun : ℕ → Setting → State → State
 unlimitedRun = steps ended
 
 -- "root first, linked by middle children, identifiers 0 upward, no spawner, all at world 0"
@@ -174,13 +174,13 @@ begun rs =
     }
 
 -- "Contradictions are checked once before any step, unless skipped"
-unfoldable pub start : Flags → List Rec → State
+unfoldable pub start : Setting → List Rec → State
 start F rs = checkForContradictions F (begun rs)
 
 -- "that run passes 512 identifiers", sooner or later: by the paper's own loop
-abbrev pub Passes : Flags → List Rec → Type 0
+abbrev pub Passes : Setting → List Rec → Type 0
 Passes F rs = (n : ℕ) × (mostIdentifiers < length (unlimitedRun n F (start F rs) .nodes))
 
 -- each step takes an identifier that was not taken before, so that this many steps are enough
-unfoldable pub final : Flags → List Rec → State
+unfoldable pub final : Setting → List Rec → State
 final F rs = run (suc mostIdentifiers) F (start F rs)

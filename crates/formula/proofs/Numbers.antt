@@ -9,6 +9,7 @@ use lib.ListN.{length, getD, List·getD-eq-default}
 use Rattle.definition.specs.Limits.{mostFormulas}
 use Rattle.definition.specs.Records.{Kind, Atomic, Non, And, Or, Imply, BiImply, StrictImply, Possible, Necessary, Unknown, Comment, Rec, made, numberOf, kindOf, recAt, formulaOf}
 use Rattle.definition.proofs.Lists.{alike}
+use Rattle.definition.specs.Setting.{Setting}
 use Rattle.definition.specs.Queue.{priorities, prioritiesOfNon, priorityOf}
 use Rattle.formula.specs.Priority.{priorityBy}
 use Rattle.formula.specs.Recorded.{missing, Recorded}
@@ -89,9 +90,9 @@ unfolding priorityBy
 inner-rest k i z a b d = rw (eq-eqb k 1 z) (inner-first i a b d)
 
 -- the class by kinds is the class by records
-pub class-of : {rs : List Rec} {n : ℕ} {a : List ℕ} (f k l i v : ℕ) → Recorded rs n a → n ≤ mostFormulas
-    → k ≡ numberOf (formulaOf rs f .kind) → l ≡ recAt rs f .left → i ≡ numberOf (recAt rs l .kind) → v ≡ priorityBy k i → v ≡ priorityOf rs (formulaOf rs f)
+pub class-of : (F : Setting) {rs : List Rec} {n : ℕ} {a : List ℕ} (f k l i v : ℕ) → Recorded rs n a → n ≤ mostFormulas
+    → k ≡ numberOf (formulaOf rs f .kind) → l ≡ recAt rs f .left → i ≡ numberOf (recAt rs l .kind) → v ≡ priorityBy k i → v ≡ priorityOf F rs (formulaOf rs f)
 unfolding priorityBy priorityOf numberOf
-class-of {rs} f k l i v p h dk dl di dv =
+class-of F {rs} f k l i v p h dk dl di dv =
     let e : formulaOf rs f .left ≡ recAt rs f .left = formula-as (λ (r : Rec). r .left) refl p h f in
     dv ∙ rw (di, dl, dk, e) refl

@@ -10,6 +10,7 @@ ghost use Prim.Native.Nat.{_≤_, _<_};
 ghost use Rattle.definition.specs.Limits.{mostFormulas};
 ghost use Rattle.limits.specs.Arrays.{formulaFields};
 ghost use Rattle.definition.specs.Records.{nobody, Rec, Non, Imply, Possible, Necessary, made, numberOf, kindOf, recAt, formulaOf};
+ghost use Rattle.definition.specs.Setting.{Setting};
 ghost use Rattle.definition.specs.Queue.{priorityOf};
 ghost use Rattle.formula.specs.Priority.{priorityBy};
 ghost use Rattle.formula.specs.Recorded.{Recorded, column, missing, row};
@@ -170,7 +171,7 @@ fn priority_by(outer: u16, inner: u16) -> u16
 
 // The class of a node's formula.
 pub fn priority_of(formulas: &Formulas, count: usize, f: FormulaNumber) -> u16
-    ensures { λ r. ⌜ ((rs : List Rec) → Recorded rs count (now (formulas .entry)) → count ≤ mostFormulas → r ≡ priorityOf rs (formulaOf rs (f .0))) ⌝ }
+    ensures { λ r. ⌜ ((F : Setting) (rs : List Rec) → Recorded rs count (now (formulas .entry)) → count ≤ mostFormulas → r ≡ priorityOf F rs (formulaOf rs (f .0))) ⌝ }
 {
     let outer = formula_kind(formulas, count, f);
     let inner = kind_at(formulas, count, left_at(formulas, count, f));

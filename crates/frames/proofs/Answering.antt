@@ -10,11 +10,12 @@ use lib.Dec.{eqb, ltb}
 use lib.ListN.{length}
 use Rattle.definition.specs.Trays.{Trays}
 use Rattle.definition.specs.Checks.{Lengths, Check, check, checks, refused}
+use Rattle.definition.specs.Setting.{settingOf}
 use Rattle.definition.specs.Call.{answer, answerOf, outcome, outcomeBy, lengthsOf}
 
 pub answer-lengths : (branch : List ℕ) (flags : ℕ) (lent more : Trays) → lengthsOf lent ≡ lengthsOf more → answer branch flags lent ≡ answer branch flags more
 unfolding answer
-answer-lengths branch flags lent more e = ap (λ (l : Lengths). answerOf (outcome branch flags l)) e
+answer-lengths branch flags lent more e = ap (λ (l : Lengths). answerOf (settingOf flags) (outcome branch flags l)) e
 
 -- "torn" or "overlong", by whether the length is a multiple of 6
 tornOr : Bool → Option Check
@@ -40,6 +41,6 @@ answer-overlong whole other flags lent h e =
     rw (refused-over other flags l (omega arith), refused-over whole flags l h, same)
     (go (eqb (length whole % 6) 0))
   where
-    go : (b : Bool) → answerOf (outcomeBy other flags (tornOr b)) ≡ answerOf (outcomeBy whole flags (tornOr b))
+    go : (b : Bool) → answerOf (settingOf flags) (outcomeBy other flags (tornOr b)) ≡ answerOf (settingOf flags) (outcomeBy whole flags (tornOr b))
     go true = refl
     go false = refl

@@ -8,12 +8,10 @@ use native.Mathlib.Omega.{arith}
 use lib.Dec.{ltb, leb, eqb}
 use borrow.Author.Tests.{leb-true, leb-false, eqb-true, le-ltb, eq-eqb, ne-eqb}
 use Rattle.definition.specs.Limits.{graphWidth}
-use Rattle.definition.specs.Flags.{Flags}
+use Rattle.definition.specs.Setting.{Setting}
 use Rattle.definition.specs.Graph.{Graph, edge, graphOf, addMissingReflexiveVertices, addMissingSymmetricVertices, addMissingTransitiveVertices, addMissingGraphVertices, initializeGraphIfNeeded, fork}
 use Rattle.definition.proofs.Lists.{true-false, and-left, and-right, or-cases, either}
-use Rattle.graph.specs.declared.NormalModalLogic.{NormalModalLogic}
 use Rattle.graph.specs.Drawn.{grid, withVertex, Drawn}
-use Rattle.graph.specs.Logic.{logicOf}
 use Rattle.graph.proofs.Grid.{grid-same}
 use Rattle.graph.proofs.Drawn.{drawn-out, drawn-graph, within}
 
@@ -22,20 +20,17 @@ pub data Ran (n : ℕ) (flagged : Bool) (scan : Graph → Graph) (a b : List ℕ
   ran : flagged ≡ true → ((g : Graph) → Drawn g n a → Drawn (scan g) n b) → Ran n flagged scan a b
   idle : flagged ≡ false → b ≡ a → Ran n flagged scan a b
 
-after : {n : ℕ} {f : Bool} {scan : Graph → Graph} {a b : List ℕ} (c : Bool) → f ≡ c → Ran n f scan a b → (g : Graph) → Drawn g n a → Drawn (cond c (scan g) g) n b
-after c e (ran t h) g d = rw (sym e ∙ t) (h g d)
-after c e (idle t q) g d = rw (sym e ∙ t, q) d
+after : {n : ℕ} {f : Bool} {scan : Graph → Graph} {a b : List ℕ} → Ran n f scan a b → (g : Graph) → Drawn g n a → Drawn (cond f (scan g) g) n b
+after (ran t h) g d = rw t (h g d)
+after (idle t q) g d = rw (t, q) d
 
-pub ran-all : (F : Flags) {l : NormalModalLogic} {n : ℕ} {a b c d : List ℕ} → l ≡ logicOf F → Ran n (l .«is_reflexive») addMissingReflexiveVertices a b →
-    Ran n (l .«is_symmetric») addMissingSymmetricVertices b c → Ran n (l .«is_transitive») addMissingTransitiveVertices c d →
+pub ran-all : (F : Setting) {n : ℕ} {a b c d : List ℕ} → Ran n (F .reflexive) addMissingReflexiveVertices a b →
+    Ran n (F .symmetric) addMissingSymmetricVertices b c → Ran n (F .transitive) addMissingTransitiveVertices c d →
     (g : Graph) → Drawn g n a → Drawn (addMissingGraphVertices F g) n d
-unfolding addMissingGraphVertices logicOf
-ran-all F e r s t g p =
-    after (F .transitive) (ap (λ (l : NormalModalLogic). l .«is_transitive») e) t _
-    (after (F .symmetric) (ap (λ (l : NormalModalLogic). l .«is_symmetric») e) s _
-    (after (F .reflexive) (ap (λ (l : NormalModalLogic). l .«is_reflexive») e) r g p))
+unfolding addMissingGraphVertices
+ran-all F r s t g p = after t _ (after s _ (after r g p))
 
-module _ (F : Flags) {g : Graph} {n : ℕ} {a : List ℕ} (d : Drawn g n a) where
+module _ (F : Setting) {g : Graph} {n : ℕ} {a : List ℕ} (d : Drawn g n a) where
   pub init-kept : n ≢ 0 → Drawn (initializeGraphIfNeeded F g) n a
   unfolding initializeGraphIfNeeded
   init-kept h = rw (ne-eqb (g .worlds) 0 (λ q. h (d .count ∙ q))) d

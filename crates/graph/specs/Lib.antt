@@ -1,2 +1,1 @@
 pub mod Drawn
-pub mod Logic

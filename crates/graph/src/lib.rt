@@ -9,15 +9,15 @@ use missing_vertices::add_missing_reflexive_vertices;
 use missing_vertices::add_missing_symmetric_vertices;
 use missing_vertices::add_missing_transitive_vertices;
 use missing_vertices::add_vertex_if;
+use setting::Setting;
 ghost use mathlib.Core.Path.{_≡_};
 ghost use mathlib.Core.Bool.{Bool};
 ghost use Prim.Native.Nat.{ℕ, suc, min, _<_, _≤_};
 ghost use lib.Dec.{eqb};
 ghost use Rattle.definition.specs.Limits.{graphWidth};
-ghost use Rattle.definition.specs.Flags.{Flags};
 ghost use Rattle.definition.specs.Graph.{Graph, edge, addMissingGraphVertices, initializeGraphIfNeeded, fork};
 ghost use Rattle.graph.specs.Drawn.{grid, withVertex, Drawn};
-ghost use Rattle.graph.specs.Logic.{logicOf};
+ghost use Rattle.setting.specs.Asked.{asked};
 
 pub struct PossibleWorld(pub u16);
 
@@ -78,40 +78,29 @@ fn add_vertex(edges: &mut Edges, u: PossibleWorld, v: PossibleWorld)
     edges[from * GRAPH_WIDTH + to] = 1;
 }
 
-// What the flags say of the graph.
-pub struct NormalModalLogic {
-    pub is_reflexive: bool,
-    pub is_symmetric: bool,
-    pub is_transitive: bool,
-}
-
 // The missing edges of a graph of so many worlds: reflexive, symmetric, transitive, each if flagged.
-fn add_missing_graph_vertices(edges: &mut Edges, worlds: usize, logic: NormalModalLogic)
-    ensures { λ r. ⌜ ((F : Flags) (g : Graph) → logic ≡ logicOf F → Drawn g worlds (now (edges .entry)) → Drawn (addMissingGraphVertices F g) worlds (now (edges .exit))) ⌝ }
+fn add_missing_graph_vertices(edges: &mut Edges, worlds: usize, setting: Setting)
+    ensures { λ r. ⌜ ((g : Graph) → Drawn g worlds (now (edges .entry)) → Drawn (addMissingGraphVertices (asked setting) g) worlds (now (edges .exit))) ⌝ }
 {
-    if logic.is_reflexive {
+    if setting.is_reflexive {
         add_missing_reflexive_vertices(edges, worlds);
     }
-    if logic.is_symmetric {
+    if setting.is_symmetric {
         add_missing_symmetric_vertices(edges, worlds);
     }
-    if logic.is_transitive {
+    if setting.is_transitive {
         add_missing_transitive_vertices(edges, worlds);
     }
 }
 
 // Puts world 0 in an empty graph. The count of worlds.
-pub fn initialize_graph_if_needed(
-    edges: &mut Edges,
-    worlds: usize,
-    logic: NormalModalLogic,
-) -> usize
-    ensures { λ r. ⌜ ((F : Flags) (g : Graph) → logic ≡ logicOf F → Drawn g worlds (now (edges .entry)) → Drawn (initializeGraphIfNeeded F g) r (now (edges .exit))) ⌝ }
+pub fn initialize_graph_if_needed(edges: &mut Edges, worlds: usize, setting: Setting) -> usize
+    ensures { λ r. ⌜ ((g : Graph) → Drawn g worlds (now (edges .entry)) → Drawn (initializeGraphIfNeeded (asked setting) g) r (now (edges .exit))) ⌝ }
 {
     if worlds != 0 {
         return worlds;
     }
-    add_missing_graph_vertices(edges, 1, logic);
+    add_missing_graph_vertices(edges, 1, setting);
     1
 }
 
@@ -129,13 +118,8 @@ pub fn forked_world(worlds: usize) -> PossibleWorld
 }
 
 // A new world, which u reaches, while there is room for one. The count of worlds.
-pub fn fork_world(
-    edges: &mut Edges,
-    worlds: usize,
-    u: PossibleWorld,
-    logic: NormalModalLogic,
-) -> usize
-    ensures { λ r. ⌜ ((F : Flags) (g : Graph) → logic ≡ logicOf F → worlds < graphWidth → Drawn g worlds (now (edges .entry)) → Drawn (fork F g (u .0)) r (now (edges .exit)))
+pub fn fork_world(edges: &mut Edges, worlds: usize, u: PossibleWorld, setting: Setting) -> usize
+    ensures { λ r. ⌜ ((g : Graph) → worlds < graphWidth → Drawn g worlds (now (edges .entry)) → Drawn (fork (asked setting) g (u .0)) r (now (edges .exit)))
         × (graphWidth ≤ worlds → (r ≡ worlds) × (now (edges .exit) ≡ now (edges .entry))) ⌝ }
 {
     if GRAPH_WIDTH <= worlds {
@@ -152,6 +136,6 @@ pub fn fork_world(
         },
         known,
     );
-    add_missing_graph_vertices(edges, worlds + 1, logic);
+    add_missing_graph_vertices(edges, worlds + 1, setting);
     worlds + 1
 }

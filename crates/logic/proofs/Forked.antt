@@ -11,7 +11,7 @@ use Rattle.limits.specs.Arrays.{necessityCells}
 use Rattle.arrays.specs.Listed.{Listed}
 use Rattle.arrays.proofs.Listed.{listed-fits}
 use Rattle.definition.specs.Lists.{Each}
-use Rattle.definition.specs.Flags.{Flags}
+use Rattle.definition.specs.Setting.{Setting}
 use Rattle.definition.specs.Records.{Rec, nobody}
 use Rattle.definition.specs.Graph.{Graph, initializeGraphIfNeeded, forkedWorld, fork}
 use Rattle.definition.specs.Tree.{Node, newNode, nodeAt, leaves, leavesBelow}
@@ -82,14 +82,14 @@ fork-placed ns q more x base s id small h l at low list st comment one rest =
     left-as (ap (λ (rs : List Targeted). appendLogicRuleResult (p .nodes) (p .waiting) rs) (put .are)) second
 
 -- the graph has room for one world more
-pub known-few : (F : Flags) (g : Graph) {n m : ℕ} {a b : List ℕ} → Drawn g n a → n < graphWidth → Drawn (initializeGraphIfNeeded F g) m b → m < graphWidth
+pub known-few : (F : Setting) (g : Graph) {n m : ℕ} {a b : List ℕ} → Drawn g n a → n < graphWidth → Drawn (initializeGraphIfNeeded F g) m b → m < graphWidth
 known-few F g {n} {m} d few k = go (init-less F g)
   where
     go : (g .worlds ≡ 0) ⊎ (initializeGraphIfNeeded F g .worlds ≡ g .worlds) → m < graphWidth
     go (inl e) = omega (arith, init-one F g e, k .count)
     go (inr e) = omega (arith, e, k .count, d .count, few)
 
-module _ (F : Flags) (s : State) (x : ℕ) (recs : List Rec) (f : ℕ) (q : List ℕ) where
+module _ (F : Setting) (s : State) (x : ℕ) (recs : List Rec) (f : ℕ) (q : List ℕ) where
   abbrev g₀ : Graph
   g₀ = initializeGraphIfNeeded F (s .graph)
 

@@ -10,7 +10,7 @@ use Rattle.definition.specs.Limits.{mostIdentifiers}
 use Rattle.arrays.specs.Listed.{Listed}
 use Rattle.arrays.proofs.Listed.{listed-fits}
 use Rattle.definition.specs.Lists.{Each, elem, filter}
-use Rattle.definition.specs.Flags.{Flags}
+use Rattle.definition.specs.Setting.{Setting}
 use Rattle.definition.specs.Records.{Rec}
 use Rattle.definition.specs.Graph.{Graph, initializeGraphIfNeeded}
 use Rattle.definition.specs.Tree.{Node, nodeAt, leaves, path}
@@ -74,7 +74,7 @@ module _ (s : State) (x f : ℕ) where
       each-map (λ leaf (h : Bare (spots t) leaf × (elem x (path t leaf) ≡ true)). own leaf (h .0) ∙ h .1) through (each-filter (Bare (spots t)) (λ leaf. elem x (path t leaf)) (leaves t) (leaves-bare t r)) in
       listed-as (leavesOf t n) (filter-all (λ leaf. runsThrough n (path t leaf)) through all ∙ sym (spawned-leaves t r n own)) l
 
-module _ (F : Flags) (s : State) (x : ℕ) (recs : List Rec) (f : ℕ) (q : List ℕ) where
+module _ (F : Setting) (s : State) (x : ℕ) (recs : List Rec) (f : ℕ) (q : List ℕ) where
   abbrev graph : Graph
   graph = initializeGraphIfNeeded F (s .graph)
 

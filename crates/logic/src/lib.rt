@@ -2,7 +2,6 @@
 // Of a call whose arrays lay out nothing of the kind that its contract names: it ends and stays in bounds; its outcome is free.
 use arrays::nth;
 use formula::FormulaNumber;
-use graph::NormalModalLogic;
 use graph::PossibleWorld;
 use graph::fork_world;
 use graph::forked_world;
@@ -33,6 +32,7 @@ use necessities::turn;
 use necessities::visit;
 use necessities::visited_at;
 use necessities::world_at;
+use setting::Setting;
 use subtree::Counts;
 use subtree::ProofSubtree;
 use subtree::append_logic_rule_result;
@@ -54,14 +54,13 @@ ghost use Rattle.definition.specs.Limits.{mostIdentifiers};
 ghost use Rattle.arrays.specs.Listed.{Listed};
 ghost use Rattle.definition.specs.Lists.{Each};
 ghost use Rattle.definition.specs.Records.{Rec, nobody};
-ghost use Rattle.definition.specs.Flags.{Flags};
 ghost use Rattle.definition.specs.Graph.{Graph};
 ghost use Rattle.definition.specs.Tree.{Node, newNode, leaves, path};
 ghost use Rattle.definition.specs.Subtree.{Targeted, withMiddle, appendLogicRuleResult};
 ghost use Rattle.definition.specs.Modality.{Necessity, Fork, occurs, unvisited, giveOn, leavesOf, reapplyNecessity, visiting, isReapplied, reapplyIfOnPath, reapplyNecessityAfterPossibility, necessitiesAfterPossibility};
 ghost use Rattle.definition.specs.Run.{State, applyPossibility, applyNecessity};
 ghost use Rattle.graph.specs.Drawn.{Drawn};
-ghost use Rattle.graph.specs.Logic.{logicOf};
+ghost use Rattle.setting.specs.Asked.{asked};
 ghost use Rattle.definition.proofs.Treed.{Treed};
 ghost use Rattle.definition.proofs.Growing.{Steady};
 ghost use Rattle.definition.proofs.Spawned.{Spawned};
@@ -346,7 +345,7 @@ fn store_necessity(
 
 // Gives a node for each world that is reached, path by path, and stores the necessity with the leaves of its paths.
 pub fn apply_necessity(
-    logic: NormalModalLogic,
+    setting: Setting,
     p: Sizes,
     x: ProofTreeNodeID,
     f: FormulaNumber,
@@ -358,11 +357,10 @@ pub fn apply_necessity(
     order: &mut Order,
     wait: &mut Waiting,
 ) -> Sizes
-    ensures { λ r. ⌜ ((F : Flags) (s : State) (more : List Rec) (q : List ℕ) → logic ≡ logicOf F
-        → Before p (now (tree .entry)) (now (edges .entry)) (now (rows .entry)) (now (leafs .entry)) (now (visited .entry)) (now (order .entry)) (now (wait .entry)) s q
-        → After r (now (tree .exit)) (now (edges .exit)) (now (rows .exit)) (now (leafs .exit)) (now (visited .exit)) (now (order .exit)) (now (wait .exit)) (applyNecessity F s (x .0) more (f .0)) (placing s q (applyNecessity F s (x .0) more (f .0)))) ⌝ }
+    ensures { λ r. ⌜ ((s : State) (more : List Rec) (q : List ℕ) → Before p (now (tree .entry)) (now (edges .entry)) (now (rows .entry)) (now (leafs .entry)) (now (visited .entry)) (now (order .entry)) (now (wait .entry)) s q
+        → After r (now (tree .exit)) (now (edges .exit)) (now (rows .exit)) (now (leafs .exit)) (now (visited .exit)) (now (order .exit)) (now (wait .exit)) (applyNecessity (asked setting) s (x .0) more (f .0)) (placing s q (applyNecessity (asked setting) s (x .0) more (f .0)))) ⌝ }
 {
-    let worlds = initialize_graph_if_needed(edges, p.worlds, logic);
+    let worlds = initialize_graph_if_needed(edges, p.worlds, setting);
     let c = store_necessity(p, x, f, tree, rows, leafs, visited, order);
     let k = row_at(order, c, 0);
     let mut below = [0u16; MOST_IDENTIFIERS];
@@ -494,7 +492,7 @@ fn worlds_at_fork(
 
 // A new world, with the formula and its comment; then the stored necessities whose paths go through the node.
 pub fn apply_possibility(
-    logic: NormalModalLogic,
+    setting: Setting,
     p: Sizes,
     x: ProofTreeNodeID,
     f: FormulaNumber,
@@ -506,13 +504,12 @@ pub fn apply_possibility(
     order: &mut Order,
     wait: &mut Waiting,
 ) -> Sizes
-    ensures { λ r. ⌜ ((F : Flags) (s : State) (more : List Rec) (q : List ℕ) → logic ≡ logicOf F
-        → Before p (now (tree .entry)) (now (edges .entry)) (now (rows .entry)) (now (leafs .entry)) (now (visited .entry)) (now (order .entry)) (now (wait .entry)) s q
-        → After r (now (tree .exit)) (now (edges .exit)) (now (rows .exit)) (now (leafs .exit)) (now (visited .exit)) (now (order .exit)) (now (wait .exit)) (applyPossibility F s (x .0) more (f .0)) (placing s q (applyPossibility F s (x .0) more (f .0)))) ⌝ }
+    ensures { λ r. ⌜ ((s : State) (more : List Rec) (q : List ℕ) → Before p (now (tree .entry)) (now (edges .entry)) (now (rows .entry)) (now (leafs .entry)) (now (visited .entry)) (now (order .entry)) (now (wait .entry)) s q
+        → After r (now (tree .exit)) (now (edges .exit)) (now (rows .exit)) (now (leafs .exit)) (now (visited .exit)) (now (order .exit)) (now (wait .exit)) (applyPossibility (asked setting) s (x .0) more (f .0)) (placing s q (applyPossibility (asked setting) s (x .0) more (f .0)))) ⌝ }
 {
-    let known = initialize_graph_if_needed(edges, p.worlds, logic);
+    let known = initialize_graph_if_needed(edges, p.worlds, setting);
     let v = forked_world(known);
-    let worlds = fork_world(edges, known, world_of(tree, x), logic);
+    let worlds = fork_world(edges, known, world_of(tree, x), setting);
     let mut seen = [0u32; MOST_IDENTIFIERS];
     worlds_at_fork(tree, p.nodes, x, v, p.necessities, &mut seen);
     let forked = fork_nodes(tree, p.nodes, x, f, v);

@@ -8,7 +8,7 @@ use lib.ListN.{length}
 use Rattle.definition.specs.Limits.{mostIdentifiers}
 use Rattle.arrays.specs.Listed.{Listed}
 use Rattle.definition.specs.Lists.{all}
-use Rattle.definition.specs.Flags.{Flags}
+use Rattle.definition.specs.Setting.{Setting}
 use Rattle.definition.specs.Records.{Rec}
 use Rattle.definition.specs.Tree.{Node, nodeAt, leaves}
 use Rattle.definition.specs.Rules.{Rule, nothing, down, split, asPossible, asNecessary}
@@ -50,7 +50,7 @@ Plain (split fs gs) = Unit {0}
 Plain (asPossible f) = ⊥
 Plain (asNecessary f) = ⊥
 
-module _ (F : Flags) (s : State) (x : ℕ) (recs : List Rec) where
+module _ (F : Setting) (s : State) (x : ℕ) (recs : List Rec) where
   pub rule-here : (r : Rule ℕ) → Plain r → applyHere s x recs (hereOf r) ≡ applyRule F s x recs r
   unfolding applyRule
   rule-here nothing h = refl
@@ -71,22 +71,24 @@ pub after-as : (s : State) (q : List ℕ) {r r′ : LogicRuleResult} {p : Sizes}
 after-as s q {p = p} {ta} {ea} {ra} {la} {va} {oa} {wa} e h = subst (λ (r : LogicRuleResult). After p ta ea ra la va oa wa r (placing s q r)) e h
 
 -- contradictions
-module _ (F : Flags) (s : State) where
-  pub check-skipped : {b proved : Bool} {len : ℕ} {a : List ℕ} → b ≡ F .skip → b ≡ true → proved ≡ s .proved → Held (s .nodes) len a →
+module _ (F : Setting) (s : State) where
+  pub check-skipped : {proved : Bool} {len : ℕ} {a : List ℕ} → F .skip ≡ true → proved ≡ s .proved → Held (s .nodes) len a →
       Held (checkForContradictions F s .nodes) len a × (len ≤ mostIdentifiers → proved ≡ checkForContradictions F s .proved)
   unfolding checkForContradictions
-  check-skipped {proved = proved} {len} {a} e t p h =
-      subst (λ (c : Bool). Held (cond c s (checkedForContradictions s) .nodes) len a × (len ≤ mostIdentifiers → proved ≡ cond c s (checkedForContradictions s) .proved)) (sym t ∙ e) (h, λ _. p)
+  check-skipped {proved = proved} {len} {a} t p h =
+      subst (λ (c : Bool). Held (cond c s (checkedForContradictions s) .nodes) len a × (len ≤ mostIdentifiers → proved ≡ cond c s (checkedForContradictions s) .proved)) (sym t) (h, λ _. p)
 
   abbrev found : List (Option Pair)
   found = pairs (s .formulas) (s .nodes) (leaves (s .nodes))
 
-  pub check-made : {b r : Bool} {len : ℕ} {a : List ℕ} → b ≡ F .skip → b ≡ false → Held (markAll (s .nodes) found) len a → (len ≤ mostIdentifiers → r ≡ (s .proved || all isPair found)) →
+  pub check-made : {r : Bool} {len : ℕ} {a : List ℕ} → F .skip ≡ false → Held (markAll (s .nodes) found) len a → (len ≤ mostIdentifiers → r ≡ (s .proved || all isPair found)) →
       Held (checkForContradictions F s .nodes) len a × (len ≤ mostIdentifiers → r ≡ checkForContradictions F s .proved)
   unfolding checkForContradictions checkedForContradictions
-  check-made {r = r} {len} {a} e t h k =
-      subst (λ (c : Bool). Held (cond c s (checkedForContradictions s) .nodes) len a × (len ≤ mostIdentifiers → r ≡ cond c s (checkedForContradictions s) .proved)) (sym t ∙ e) (h, k)
+  check-made {r = r} {len} {a} t h k =
+      subst (λ (c : Bool). Held (cond c s (checkedForContradictions s) .nodes) len a × (len ≤ mostIdentifiers → r ≡ cond c s (checkedForContradictions s) .proved)) (sym t) (h, k)
 
+-- one path more, or none, where the run has proved and where it has not
+module _ (s : State) where
   pub or-yes : (v : Bool) {proved : Bool} → proved ≡ s .proved → proved ≡ true → true ≡ (s .proved || v)
   or-yes v e t = ap (λ (c : Bool). c || v) (sym t ∙ e)
 

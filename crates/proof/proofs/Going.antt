@@ -5,7 +5,7 @@ use mathlib.Core.List.{List}
 use Prim.Native.Nat.{ℕ, zero, suc, _≤_, _<_, _+_, _-_}
 use native.Mathlib.Omega.{arith}
 use Rattle.definition.specs.Limits.{mostIdentifiers}
-use Rattle.definition.specs.Flags.{Flags}
+use Rattle.definition.specs.Setting.{Setting}
 use Rattle.definition.specs.Run.{State, step, steps, stops, run}
 use Rattle.definition.proofs.Ready.{Fit, fit-step}
 use Rattle.definition.proofs.Fresh.{Watch, watch-step}
@@ -13,52 +13,52 @@ use Rattle.definition.proofs.Spawned.{AllRooted, rooted-step}
 use Rattle.proof.specs.declared.Progress.{Progress}
 use Rattle.proof.specs.Kept.{Kept}
 
-run-stopped : (m : ℕ) (F : Flags) (s : State) → stops s ≡ true → run m F s ≡ s
+run-stopped : (m : ℕ) (F : Setting) (s : State) → stops F s ≡ true → run m F s ≡ s
 unfolding steps
 run-stopped zero F s e = refl
 run-stopped (suc m) F s e = ap (λ (b : Bool). cond b s (run m F (step F s))) e
 
-run-next : (m : ℕ) (F : Flags) (s : State) → stops s ≡ false → run (suc m) F s ≡ run m F (step F s)
+run-next : (m : ℕ) (F : Setting) (s : State) → stops F s ≡ false → run (suc m) F s ≡ run m F (step F s)
 unfolding steps
 run-next m F s e = ap (λ (b : Bool). cond b s (run m F (step F s))) e
 
-run-none : (F : Flags) (s : State) → run 0 F s ≡ s
+run-none : (F : Setting) (s : State) → run 0 F s ≡ s
 unfolding steps
 run-none F s = refl
 
 -- one step, where one is due
-pub one-stays : (F : Flags) (s : State) → stops s ≡ true → s ≡ run 1 F s
+pub one-stays : (F : Setting) (s : State) → stops F s ≡ true → s ≡ run 1 F s
 one-stays F s e = sym (run-stopped 1 F s e)
 
-pub one-step : (F : Flags) (s : State) → stops s ≡ false → step F s ≡ run 1 F s
+pub one-step : (F : Setting) (s : State) → stops F s ≡ false → step F s ≡ run 1 F s
 one-step F s e = sym (run-next 0 F s e ∙ run-none F (step F s))
 
-pub kept-as : {s z : State} {p : Progress} {fa ta ea ra la va oa wa ca : List ℕ} → s ≡ z → Kept s p fa ta ea ra la va oa wa ca → Kept z p fa ta ea ra la va oa wa ca
-kept-as {p = p} {fa} {ta} {ea} {ra} {la} {va} {oa} {wa} {ca} e = subst (λ (z : State). Kept z p fa ta ea ra la va oa wa ca) e
+pub kept-as : {F : Setting} {s z : State} {p : Progress} {fa ta ea ra la va oa wa ca : List ℕ} → s ≡ z → Kept F s p fa ta ea ra la va oa wa ca → Kept F z p fa ta ea ra la va oa wa ca
+kept-as {F = F} {p = p} {fa} {ta} {ea} {ra} {la} {va} {oa} {wa} {ca} e = subst (λ (z : State). Kept F z p fa ta ea ra la va oa wa ca) e
 
 -- after n of at most 513 steps
-pub record Going (F : Flags) (k : ℕ) (s : State) (n : ℕ) (p : Progress) (fa ta ea ra la va oa wa ca : List ℕ) : Type 0 where
+pub record Going (F : Setting) (k : ℕ) (s : State) (n : ℕ) (p : Progress) (fa ta ea ra la va oa wa ca : List ℕ) : Type 0 where
   pub now : State
   pub fit : Fit F k now
   pub watch : Watch F now
   pub rooted : AllRooted now
-  pub kept : Kept now p fa ta ea ra la va oa wa ca
+  pub kept : Kept F now p fa ta ea ra la va oa wa ca
   pub ends : run ((suc mostIdentifiers) - n) F now ≡ run (suc mostIdentifiers) F s
 
-module _ {F : Flags} {k : ℕ} {s : State} {n : ℕ} {p : Progress} {fa ta ea ra la va oa wa ca : List ℕ} where
-  pub going-start : Fit F k s → Watch F s → AllRooted s → Kept s p fa ta ea ra la va oa wa ca → n ≡ 0 → Going F k s n p fa ta ea ra la va oa wa ca
+module _ {F : Setting} {k : ℕ} {s : State} {n : ℕ} {p : Progress} {fa ta ea ra la va oa wa ca : List ℕ} where
+  pub going-start : Fit F k s → Watch F s → AllRooted s → Kept F s p fa ta ea ra la va oa wa ca → n ≡ 0 → Going F k s n p fa ta ea ra la va oa wa ca
   going-start f w a h e = record { now = s; fit = f; watch = w; rooted = a; kept = h; ends = ap (λ (m : ℕ). run ((suc mostIdentifiers) - m) F s) e }
 
-  pub going-stops : (g : Going F k s n p fa ta ea ra la va oa wa ca) {b : Bool} → b ≡ stops (g .now) → b ≡ true → Kept (run (suc mostIdentifiers) F s) p fa ta ea ra la va oa wa ca
+  pub going-stops : (g : Going F k s n p fa ta ea ra la va oa wa ca) {b : Bool} → b ≡ stops F (g .now) → b ≡ true → Kept F (run (suc mostIdentifiers) F s) p fa ta ea ra la va oa wa ca
   going-stops g e t = kept-as (sym (run-stopped ((suc mostIdentifiers) - n) F (g .now) (sym e ∙ t)) ∙ g .ends) (g .kept)
 
-  pub going-ends : (g : Going F k s n p fa ta ea ra la va oa wa ca) → (suc mostIdentifiers) ≤ n → Kept (run (suc mostIdentifiers) F s) p fa ta ea ra la va oa wa ca
+  pub going-ends : (g : Going F k s n p fa ta ea ra la va oa wa ca) → (suc mostIdentifiers) ≤ n → Kept F (run (suc mostIdentifiers) F s) p fa ta ea ra la va oa wa ca
   going-ends g h =
       let e : (suc mostIdentifiers) - n ≡ 0 = omega (arith, h) in
       kept-as (sym (run-none F (g .now)) ∙ ap (λ (m : ℕ). run m F (g .now)) (sym e) ∙ g .ends) (g .kept)
 
-  pub going-next : (g : Going F k s n p fa ta ea ra la va oa wa ca) → n < (suc mostIdentifiers) → stops (g .now) ≡ false →
-      {q : Progress} {fb tb eb rb lb vb ob wb cb : List ℕ} → Kept (run 1 F (g .now)) q fb tb eb rb lb vb ob wb cb → Going F k s (n + 1) q fb tb eb rb lb vb ob wb cb
+  pub going-next : (g : Going F k s n p fa ta ea ra la va oa wa ca) → n < (suc mostIdentifiers) → stops F (g .now) ≡ false →
+      {q : Progress} {fb tb eb rb lb vb ob wb cb : List ℕ} → Kept F (run 1 F (g .now)) q fb tb eb rb lb vb ob wb cb → Going F k s (n + 1) q fb tb eb rb lb vb ob wb cb
   going-next g h e next =
       let d : (suc mostIdentifiers) - n ≡ suc ((suc mostIdentifiers) - (n + 1)) = omega (arith, h) in
       record {

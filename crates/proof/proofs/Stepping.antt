@@ -12,7 +12,7 @@ use Rattle.definition.specs.Limits.{mostIdentifiers, mostFormulas}
 use Rattle.arrays.specs.Listed.{Listed}
 use Rattle.arrays.proofs.Listed.{listed-fits}
 use Rattle.definition.specs.Lists.{Each, empty}
-use Rattle.definition.specs.Flags.{Flags}
+use Rattle.definition.specs.Setting.{Setting}
 use Rattle.definition.specs.Records.{Rec}
 use Rattle.definition.specs.Graph.{Graph}
 use Rattle.definition.specs.Tree.{Node, nodeAt, leaves}
@@ -52,26 +52,26 @@ held-over : {ns : List Node} {len : ℕ} {a : List ℕ} → Held ns len a → mo
 held-over (held b e q) h = absurd (omega arith)
 held-over (tooMany b e) h = e
 
-pub kept-laid : {s : State} {p : Progress} {fa ta ea ra la va oa wa ca : List ℕ} → Kept s p fa ta ea ra la va oa wa ca → length (s .nodes) ≤ mostIdentifiers → Laid s p fa ta ea ra la va oa wa ca
+pub kept-laid : {F : Setting} {s : State} {p : Progress} {fa ta ea ra la va oa wa ca : List ℕ} → Kept F s p fa ta ea ra la va oa wa ca → length (s .nodes) ≤ mostIdentifiers → Laid F s p fa ta ea ra la va oa wa ca
 kept-laid (kept k) h = k
 kept-laid (full a b) h = absurd (omega arith)
 
-pub waiting-some : (s : State) → stops s ≡ false → empty (s .waiting) ≡ false
+pub waiting-some : (F : Setting) (s : State) → stops F s ≡ false → empty (s .waiting) ≡ false
 unfolding stops ended
-waiting-some s e = or-left (empty (s .waiting)) _ (or-right (s .proved) _ (or-left (ended s) (Run.full s) e))
+waiting-some F s e = or-left (empty (s .waiting)) _ (or-right (s .proved) _ (or-left (ended F s) (Run.full s) e))
 
 -- some node waits where a step is due, so that one is taken
-pub never-none : (s : State) → stops s ≡ false → answer (D.pop (s .formulas) (s .nodes) (s .waiting)) ≡ P.None → ⊥
+pub never-none : (F : Setting) (s : State) → stops F s ≡ false → answer (D.pop F (s .formulas) (s .nodes) (s .waiting)) ≡ P.None → ⊥
 unfolding answer
-never-none s e h = waits (s .waiting) refl
+never-none F s e h = waits (s .waiting) refl
   where
-    go : (o : Option D.Popped) → D.pop (s .formulas) (s .nodes) (s .waiting) ≡ o → answer o ≡ P.None → D.pop (s .formulas) (s .nodes) (s .waiting) ≡ none
+    go : (o : Option D.Popped) → D.pop F (s .formulas) (s .nodes) (s .waiting) ≡ o → answer o ≡ P.None → D.pop F (s .formulas) (s .nodes) (s .waiting) ≡ none
     go none q d = q
     go (some t) q d = let o : _≡_ {A = ℕ} 0 1 = cc in absurd (omega arith)
 
     waits : (q : List ℕ) → s .waiting ≡ q → ⊥
-    waits [] d = true-false (sym (ap (empty {A = ℕ}) d) ∙ waiting-some s e)
-    waits (y ∷ ys) d = pop-some (s .formulas) (s .nodes) y ys (ap (D.pop (s .formulas) (s .nodes)) (sym d) ∙ go _ refl h)
+    waits [] d = true-false (sym (ap (empty {A = ℕ}) d) ∙ waiting-some F s e)
+    waits (y ∷ ys) d = pop-some F (s .formulas) (s .nodes) y ys (ap (D.pop F (s .formulas) (s .nodes)) (sym d) ∙ go _ refl h)
 
 -- which one
 pub taken-of : (o : Option D.Popped) (x : ProofTreeNodeID) (n : ℕ) → answer o ≡ P.Node x n → (q : List ℕ) × (o ≡ some (record { node = x .0; others = q })) × (length q ≡ n)
@@ -82,7 +82,7 @@ taken-of (some t) x n e =
     let i : y ≡ x = cc in
     (t .others, ap (λ (z : ProofTreeNodeID). some (record { node = z .0; others = t .others })) i, cc)
 
-rule-made : (F : Flags) (s : State) (x : ℕ) (recs : List Rec) (r : Rule ℕ) → applyRule F s x recs r .formulas ≡ recs
+rule-made : (F : Setting) (s : State) (x : ℕ) (recs : List Rec) (r : Rule ℕ) → applyRule F s x recs r .formulas ≡ recs
 unfolding applyRule applyHere applyPossibility applyNecessity
 rule-made F s x recs nothing = refl
 rule-made F s x recs (down fs) = refl
@@ -98,19 +98,19 @@ record Alike (s z : State) : Type 0 where
   waiting : s .waiting ≡ z .waiting
   steps : s .steps ≡ z .steps
 
-checked-alike : (F : Flags) (s : State) → Alike s (checkForContradictions F s)
+checked-alike : (F : Setting) (s : State) → Alike s (checkForContradictions F s)
 unfolding checkedForContradictions
 checked-alike F s =
     checked-both (Alike s) F s (record { formulas = refl; graph = refl; necessities = refl; waiting = refl; steps = refl })
     (record { formulas = refl; graph = refl; necessities = refl; waiting = refl; steps = refl })
 
-pub laid-fits : {s : State} {p : Progress} {fa ta ea ra la va oa wa ca : List ℕ} → Laid s p fa ta ea ra la va oa wa ca → p .nodes ≤ mostIdentifiers
+pub laid-fits : {F : Setting} {s : State} {p : Progress} {fa ta ea ra la va oa wa ca : List ℕ} → Laid F s p fa ta ea ra la va oa wa ca → p .nodes ≤ mostIdentifiers
 laid-fits l = omega (arith, l .room, l .count)
 
 -- a state whose contradictions are checked, in arrays: its nodes and what is proved, and the rest as it was
-pub checked-laid : (F : Flags) (s : State) {p : Progress} {fa ta ea ra la va oa wa ca : List ℕ} →
-    Recorded (s .formulas) (p .formulas) fa → Drawn (s .graph) (p .worlds) ea → Stack (s .necessities) (p .necessities) oa ra la va → Listed (s .waiting) (p .waiting) wa → Listed (map (D.getNodePriority (s .formulas) (s .nodes)) (s .waiting)) (p .waiting) ca → p .steps ≡ s .steps →
-    Held (checkForContradictions F s .nodes) (p .nodes) ta → p .proved ≡ checkForContradictions F s .proved → p .nodes ≤ mostIdentifiers → Laid (checkForContradictions F s) p fa ta ea ra la va oa wa ca
+pub checked-laid : (F : Setting) (s : State) {p : Progress} {fa ta ea ra la va oa wa ca : List ℕ} →
+    Recorded (s .formulas) (p .formulas) fa → Drawn (s .graph) (p .worlds) ea → Stack (s .necessities) (p .necessities) oa ra la va → Listed (s .waiting) (p .waiting) wa → Listed (map (D.getNodePriority F (s .formulas) (s .nodes)) (s .waiting)) (p .waiting) ca → p .steps ≡ s .steps →
+    Held (checkForContradictions F s .nodes) (p .nodes) ta → p .proved ≡ checkForContradictions F s .proved → p .nodes ≤ mostIdentifiers → Laid F (checkForContradictions F s) p fa ta ea ra la va oa wa ca
 checked-laid F s {p} {fa} {ta} {ea} {ra} {la} {va} {oa} {wa} {ca} r g n w k e nodes proved small =
     let same = checked-alike F s in
     let h = held-ok nodes small in
@@ -124,14 +124,14 @@ checked-laid F s {p} {fa} {ta} {ea} {ra} {la} {va} {oa} {wa} {ca} r g n w k e no
       waiting = subst (λ (l : List ℕ). Listed l (p .waiting) wa) (same .waiting) w;
       classes =
           let z = checkForContradictions F s in
-          subst (λ (l : List ℕ). Listed (map (D.getNodePriority (z .formulas) (z .nodes)) l) (p .waiting) ca) (same .waiting)
+          subst (λ (l : List ℕ). Listed (map (D.getNodePriority F (z .formulas) (z .nodes)) l) (p .waiting) ca) (same .waiting)
           (subst (λ (l : List ℕ). Listed l (p .waiting) ca) (sym (classes-checked F s (s .waiting))) k);
       proved = proved;
       steps = e ∙ same .steps;
     }
 
 -- the state before the rule
-pub laid-before : {n : ℕ} {s : State} {q : List ℕ} {p : Progress} {fa ta ea ra la va oa wa ca wb : List ℕ} → Ready s → AllRooted s → Laid s p fa ta ea ra la va oa wa ca → Listed q n wb →
+pub laid-before : {F : Setting} {n : ℕ} {s : State} {q : List ℕ} {p : Progress} {fa ta ea ra la va oa wa ca wb : List ℕ} → Ready s → AllRooted s → Laid F s p fa ta ea ra la va oa wa ca → Listed q n wb →
     Before (record { nodes = p .nodes; waiting = n; worlds = p .worlds; necessities = p .necessities }) ta ea ra la va oa wb s q
 laid-before {s = s} r a l w =
     record {
@@ -148,7 +148,7 @@ laid-before {s = s} r a l w =
     }
 
 -- no more wait than there are nodes
-pub waiting-fits : (F : Flags) (k : ℕ) (s : State) → Fit F k s → length (s .nodes) ≤ mostIdentifiers → length (s .waiting) ≤ mostIdentifiers
+pub waiting-fits : (F : Setting) (k : ℕ) (s : State) → Fit F k s → length (s .nodes) ≤ mostIdentifiers → length (s .waiting) ≤ mostIdentifiers
 unfolding Counted
 waiting-fits F k s fit h = omega (arith, fit .bounded .counted, h)
 
@@ -169,7 +169,7 @@ took-classes f w o x q {a = a} e c l = counted-as c (subst (λ (v : Option D.Pop
 pub expands-as : {rs : List Rec} {g h : ℕ} {e : Expanded} {a : List ℕ} → g ≡ h → Expands rs (expansion rs g) e a → Expands rs (expansion rs h) e a
 expands-as {rs} {e = e} {a = a} d k = subst (λ (v : ℕ). Expands rs (expansion rs v) e a) d k
 
-module _ (F : Flags) (s : State) (x : ℕ) (q : List ℕ) where
+module _ (F : Setting) (s : State) (x : ℕ) (q : List ℕ) where
   abbrev f : ℕ
   f = nodeAt (s .nodes) x .formula
 
@@ -182,7 +182,7 @@ module _ (F : Flags) (s : State) (x : ℕ) (q : List ℕ) where
   abbrev next : State
   next = appended F s taken
 
-  formulas-fit : length (s .formulas) ≤ 1278 → {n : ℕ} {a : List ℕ} → Recorded (s .formulas ++ recs) n a → n ≤ mostFormulas
+  formulas-fit : length (s .formulas) + 2 ≤ mostFormulas → {n : ℕ} {a : List ℕ} → Recorded (s .formulas ++ recs) n a → n ≤ mostFormulas
   formulas-fit h r = recorded-fits r (omega (arith, h, length-append (s .formulas) recs, made-two (s .formulas) f))
 
   -- the rule's result, as the step has it
@@ -204,9 +204,9 @@ module _ (F : Flags) (s : State) (x : ℕ) (q : List ℕ) where
   unfolding appended
   next-waiting h fits = h .rest fits .waiting
 
-  module _ (k : ℕ) (fit : Fit F k s) (o : D.pop (s .formulas) (s .nodes) (s .waiting) ≡ some taken) where
+  module _ (k : ℕ) (fit : Fit F k s) (o : D.pop F (s .formulas) (s .nodes) (s .waiting) ≡ some taken) where
     out : (suc (length q) ≡ length (s .waiting)) × (Each (λ y. y < length (s .nodes)) (s .waiting) → (x < length (s .nodes)) × Each (λ y. y < length (s .nodes)) q)
-    out = subst (Out (λ y. y < length (s .nodes)) (s .waiting)) o (pop-out (λ y. y < length (s .nodes)) (s .formulas) (s .nodes) (s .waiting))
+    out = subst (Out (λ y. y < length (s .nodes)) (s .waiting)) o (pop-out (λ y. y < length (s .nodes)) F (s .formulas) (s .nodes) (s .waiting))
 
     others-known : Each (λ y. y < length (s .nodes)) q
     others-known = out .1 (fit .bounded .known) .1
@@ -220,38 +220,38 @@ module _ (F : Flags) (s : State) (x : ℕ) (q : List ℕ) where
   next-proved = refl
 
   stepped-laid : {a : Sizes} {n m : ℕ} {proved : Bool} {fb tb tc eb rb lb vb ob wb cb : List ℕ} → After a tb eb rb lb vb ob wb (apply F s x) (placing s q (apply F s x)) →
-      Recorded (next .formulas) n fb → m ≡ suc (s .steps) → Held (checkForContradictions F next .nodes) (a .nodes) tc → (a .nodes ≤ mostIdentifiers → proved ≡ checkForContradictions F next .proved) → a .nodes ≤ mostIdentifiers → Listed (map (D.getNodePriority (next .formulas) (next .nodes)) (next .waiting)) (a .waiting) cb →
-      Laid (checkForContradictions F next) (record { formulas = n; nodes = a .nodes; worlds = a .worlds; necessities = a .necessities; waiting = a .waiting; steps = m; proved = proved }) fb tc eb rb lb vb ob wb cb
+      Recorded (next .formulas) n fb → m ≡ suc (s .steps) → Held (checkForContradictions F next .nodes) (a .nodes) tc → (a .nodes ≤ mostIdentifiers → proved ≡ checkForContradictions F next .proved) → a .nodes ≤ mostIdentifiers → Listed (map (D.getNodePriority F (next .formulas) (next .nodes)) (next .waiting)) (a .waiting) cb →
+      Laid F (checkForContradictions F next) (record { formulas = n; nodes = a .nodes; worlds = a .worlds; necessities = a .necessities; waiting = a .waiting; steps = m; proved = proved }) fb tc eb rb lb vb ob wb cb
   unfolding appended
   stepped-laid h r e nodes proved small classes = let rest = h .rest small in checked-laid F next r (rest .graph) (rest .necessities) (rest .waiting) classes e nodes (proved small) small
 
   stepped-kept : {a : Sizes} {n m : ℕ} {proved : Bool} {fb tb tc eb rb lb vb ob wb cb : List ℕ} → After a tb eb rb lb vb ob wb (apply F s x) (placing s q (apply F s x)) →
       Recorded (next .formulas) n fb → m ≡ suc (s .steps) → Held (checkForContradictions F next .nodes) (a .nodes) tc → (a .nodes ≤ mostIdentifiers → proved ≡ checkForContradictions F next .proved) →
-      (a .nodes ≤ mostIdentifiers → Listed (map (D.getNodePriority (next .formulas) (next .nodes)) (next .waiting)) (a .waiting) cb) →
-      Kept (checkForContradictions F next) (record { formulas = n; nodes = a .nodes; worlds = a .worlds; necessities = a .necessities; waiting = a .waiting; steps = m; proved = proved }) fb tc eb rb lb vb ob wb cb
+      (a .nodes ≤ mostIdentifiers → Listed (map (D.getNodePriority F (next .formulas) (next .nodes)) (next .waiting)) (a .waiting) cb) →
+      Kept F (checkForContradictions F next) (record { formulas = n; nodes = a .nodes; worlds = a .worlds; necessities = a .necessities; waiting = a .waiting; steps = m; proved = proved }) fb tc eb rb lb vb ob wb cb
   stepped-kept {a} {n} {m} {proved} {fb} {tb} {tc} {eb} {rb} {lb} {vb} {ob} {wb} {cb} h r e nodes told classes = go (leb (a .nodes) mostIdentifiers) refl
     where
       go : (b : Bool) → leb (a .nodes) mostIdentifiers ≡ b →
-          Kept (checkForContradictions F next) (record { formulas = n; nodes = a .nodes; worlds = a .worlds; necessities = a .necessities; waiting = a .waiting; steps = m; proved = proved }) fb tc eb rb lb vb ob wb cb
+          Kept F (checkForContradictions F next) (record { formulas = n; nodes = a .nodes; worlds = a .worlds; necessities = a .necessities; waiting = a .waiting; steps = m; proved = proved }) fb tc eb rb lb vb ob wb cb
       go true t = kept (stepped-laid h r e nodes told (leb-true (a .nodes) mostIdentifiers t) (classes (leb-true (a .nodes) mostIdentifiers t)))
       go false t = full (leb-false (a .nodes) mostIdentifiers t) (held-over nodes (leb-false (a .nodes) mostIdentifiers t))
 
-  step-is : D.pop (s .formulas) (s .nodes) (s .waiting) ≡ some taken → checkForContradictions F next ≡ step F s
+  step-is : D.pop F (s .formulas) (s .nodes) (s .waiting) ≡ some taken → checkForContradictions F next ≡ step F s
   unfolding step stepBy
   step-is e = sym (ap (stepBy F s) e)
 
-  pub stepped : (k : ℕ) → Fit F k s → Watch F s → stops s ≡ false → D.pop (s .formulas) (s .nodes) (s .waiting) ≡ some taken →
-      {p : Progress} {fa ta ea ra la va oa wa ca : List ℕ} → Laid s p fa ta ea ra la va oa wa ca →
+  pub stepped : (k : ℕ) → Fit F k s → Watch F s → stops F s ≡ false → D.pop F (s .formulas) (s .nodes) (s .waiting) ≡ some taken →
+      {p : Progress} {fa ta ea ra la va oa wa ca : List ℕ} → Laid F s p fa ta ea ra la va oa wa ca →
       {e : Expanded} {fb : List ℕ} → Expands (s .formulas) (expansion (s .formulas) f) e fb →
       {a : Sizes} {tb eb rb lb vb ob wb : List ℕ} → After a tb eb rb lb vb ob wb (applyRule F s x recs (consequenceOf (e .rule))) (placing s q (applyRule F s x recs (consequenceOf (e .rule)))) →
       {m : ℕ} → (p .steps < mostIdentifiers → m ≡ suc (p .steps)) →
-      {n : ℕ} {cz cb : List ℕ} → length q ≡ n → Listed (map (D.getNodePriority (s .formulas) (s .nodes)) q) n cz →
-      ((rs : List Rec) (ns : List Node) (q more : List ℕ) → Recorded rs (e .formulas) fb → e .formulas ≤ mostFormulas → length ns ≤ mostIdentifiers → tb ≡ lay ns → Listed (q ++ more) (a .waiting) wb → a .waiting ≤ mostIdentifiers → length q ≡ n →
-      Listed (map (D.getNodePriority rs ns) q) n cz → Listed (map (D.getNodePriority rs ns) (q ++ more)) (a .waiting) cb) →
+      {n : ℕ} {cz cb : List ℕ} → length q ≡ n → Listed (map (D.getNodePriority F (s .formulas) (s .nodes)) q) n cz →
+      ((F : Setting) (rs : List Rec) (ns : List Node) (q more : List ℕ) → Recorded rs (e .formulas) fb → e .formulas ≤ mostFormulas → length ns ≤ mostIdentifiers → tb ≡ lay ns → Listed (q ++ more) (a .waiting) wb → a .waiting ≤ mostIdentifiers → length q ≡ n →
+      Listed (map (D.getNodePriority F rs ns) q) n cz → Listed (map (D.getNodePriority F rs ns) (q ++ more)) (a .waiting) cb) →
       {proved : Bool} {tc : List ℕ} →
       ((z : State) → p .proved ≡ z .proved → Recorded (z .formulas) (e .formulas) fb → e .formulas ≤ mostFormulas → Held (z .nodes) (a .nodes) tb → (F .skip ≡ false → a .nodes ≤ mostIdentifiers → Since (z .formulas) (z .nodes) (p .nodes)) →
       Held (checkForContradictions F z .nodes) (a .nodes) tc × (a .nodes ≤ mostIdentifiers → proved ≡ checkForContradictions F z .proved)) →
-      Kept (step F s) (record { formulas = e .formulas; nodes = a .nodes; worlds = a .worlds; necessities = a .necessities; waiting = a .waiting; steps = m; proved = proved }) fb tc eb rb lb vb ob wb cb
+      Kept F (step F s) (record { formulas = e .formulas; nodes = a .nodes; worlds = a .worlds; necessities = a .necessities; waiting = a .waiting; steps = m; proved = proved }) fb tc eb rb lb vb ob wb cb
   unfolding Counted
   stepped k fit watch st o {p} l {e} {fb} ex {a} {tb} {eb} {rb} {lb} {vb} {ob} {wb} af {m} count {n} {cz} {cb} size known classify {proved} {tc} check =
       let r = ready F k s fit st in
@@ -262,13 +262,13 @@ module _ (F : Flags) (s : State) (x : ℕ) (q : List ℕ) where
       let c = check next (l .proved ∙ sym next-proved) rec small nodes (λ e fits. subst (Since (next .formulas) (next .nodes)) (l .count)
       (since-step F k s taken fit st (omega (arith, held-ok nodes fits .0, fits)) (watch e (omega (arith, r .nodes))))) in
       let low : p .steps < mostIdentifiers = omega (arith, l .steps, fit .bounded .counted, r .nodes, waits) in
-      subst (λ (z : State). Kept z (record { formulas = e .formulas; nodes = a .nodes; worlds = a .worlds; necessities = a .necessities; waiting = a .waiting; steps = m; proved = proved }) fb tc eb rb lb vb ob wb cb) (step-is o)
+      subst (λ (z : State). Kept F z (record { formulas = e .formulas; nodes = a .nodes; worlds = a .worlds; necessities = a .necessities; waiting = a .waiting; steps = m; proved = proved }) fb tc eb rb lb vb ob wb cb) (step-is o)
       (stepped-kept h rec (count low ∙ ap suc (l .steps)) (c .0) (c .1) (λ fits.
       let w = queued F s taken in
       let ok = held-ok nodes fits in
       let put = subst (λ (v : List ℕ). Listed v (a .waiting) wb) (w .1) (next-waiting h fits) in
-      subst (λ (v : List ℕ). Listed (map (D.getNodePriority (next .formulas) (next .nodes)) v) (a .waiting) cb) (sym (w .1))
-      (classify (next .formulas) (next .nodes) q (w .0) rec small (omega (arith, ok .0, fits)) (ok .1) put (listed-fits (next-waiting h fits) (omega (arith, next-counted k fit o, ok .0, fits))) size
+      subst (λ (v : List ℕ). Listed (map (D.getNodePriority F (next .formulas) (next .nodes)) v) (a .waiting) cb) (sym (w .1))
+      (classify F (next .formulas) (next .nodes) q (w .0) rec small (omega (arith, ok .0, fits)) (ok .1) put (listed-fits (next-waiting h fits) (omega (arith, next-counted k fit o, ok .0, fits))) size
       (subst (λ (v : List ℕ). Listed v n cz) (sym (classes-appended F k s taken fit q (others-known k fit o))) known))))
     where
       filled : (xs : List ℕ) → empty xs ≡ false → 0 < length xs
@@ -276,4 +276,4 @@ module _ (F : Flags) (s : State) (x : ℕ) (q : List ℕ) where
       filled (y ∷ ys) d = omega arith
 
       waits : 0 < length (s .waiting)
-      waits = filled (s .waiting) (waiting-some s st)
+      waits = filled (s .waiting) (waiting-some F s st)

@@ -1,7 +1,6 @@
 // The run: a step, and the steps until none is due.
 // Of a call whose arrays lay out nothing of the kind that its contract names: it ends and stays in bounds; its outcome is free.
 use contradictions::check_for_contradictions;
-use graph::NormalModalLogic;
 use limits::Classes;
 use limits::Edges;
 use limits::FULL;
@@ -23,6 +22,7 @@ use queue::pop;
 use rules::Consequence;
 use rules::apply_here;
 use rules::expand;
+use setting::Setting;
 use subtree::ProofSubtree;
 use subtree::append_subtree;
 use tree::ProofTreeNodeID;
@@ -33,19 +33,19 @@ ghost use mathlib.Core.List.{List};
 ghost use Prim.Native.Nat.{ℕ, suc, _<_, _≤_};
 ghost use Rattle.definition.specs.Limits.{mostIdentifiers, mostFormulas};
 ghost use Rattle.definition.specs.Records.{Rec};
-ghost use Rattle.definition.specs.Flags.{Flags};
+ghost use Rattle.definition.specs.Setting as D;
 ghost use Rattle.definition.specs.Tree.{leaves};
 ghost use Rattle.definition.specs.Run.{State, applyHere, applyRule, checkForContradictions, stops, run};
 ghost use Rattle.definition.proofs.Ready.{Fit};
 ghost use Rattle.definition.proofs.Fresh.{Since, Watch};
 ghost use Rattle.definition.proofs.Spawned.{AllRooted};
 ghost use Rattle.formula.specs.Recorded.{Recorded};
-ghost use Rattle.graph.specs.Logic.{logicOf};
+ghost use Rattle.setting.specs.Asked.{asked};
 ghost use Rattle.tree.specs.Lay.{Held};
 ghost use Rattle.rules.specs.Consequences.{consequenceOf};
 ghost use Rattle.rules.specs.Here.{hereOf};
 ghost use Rattle.logic.specs.Sizes.{Before, After, placing};
-ghost use Rattle.proof.specs.Kept.{Flagged, Laid, Kept};
+ghost use Rattle.proof.specs.Kept.{Laid, Kept};
 
 // The counts of a run, and whether it has proved. More than 512 nodes: full.
 pub struct Progress {
@@ -60,7 +60,7 @@ pub struct Progress {
 
 // No step is due.
 fn stops(p: Progress) -> bool
-    ensures { λ r. ⌜ ((s : State) (formulas tree edges rows leaves visited order wait classes : List ℕ) → Kept s p formulas tree edges rows leaves visited order wait classes → r ≡ stops s) ⌝ }
+    ensures { λ r. ⌜ ((F : D.Setting) (s : State) (formulas tree edges rows leaves visited order wait classes : List ℕ) → Kept F s p formulas tree edges rows leaves visited order wait classes → r ≡ stops F s) ⌝ }
 {
     if MOST_IDENTIFIERS < p.nodes {
         return true;
@@ -105,7 +105,7 @@ fn append_here(
 
 // The rule of node x, by its consequence.
 fn apply(
-    logic: NormalModalLogic,
+    setting: Setting,
     p: Sizes,
     x: ProofTreeNodeID,
     rule: Consequence,
@@ -117,13 +117,12 @@ fn apply(
     order: &mut Order,
     wait: &mut Waiting,
 ) -> Sizes
-    ensures { λ r. ⌜ ((F : Flags) (s : State) (more : List Rec) (q : List ℕ) → logic ≡ logicOf F
-        → Before p (now (tree .entry)) (now (edges .entry)) (now (rows .entry)) (now (leaves .entry)) (now (visited .entry)) (now (order .entry)) (now (wait .entry)) s q
-        → After r (now (tree .exit)) (now (edges .exit)) (now (rows .exit)) (now (leaves .exit)) (now (visited .exit)) (now (order .exit)) (now (wait .exit)) (applyRule F s (x .0) more (consequenceOf rule)) (placing s q (applyRule F s (x .0) more (consequenceOf rule)))) ⌝ }
+    ensures { λ r. ⌜ ((s : State) (more : List Rec) (q : List ℕ) → Before p (now (tree .entry)) (now (edges .entry)) (now (rows .entry)) (now (leaves .entry)) (now (visited .entry)) (now (order .entry)) (now (wait .entry)) s q
+        → After r (now (tree .exit)) (now (edges .exit)) (now (rows .exit)) (now (leaves .exit)) (now (visited .exit)) (now (order .exit)) (now (wait .exit)) (applyRule (asked setting) s (x .0) more (consequenceOf rule)) (placing s q (applyRule (asked setting) s (x .0) more (consequenceOf rule)))) ⌝ }
 {
     match rule {
         Consequence::AsPossible(f) => apply_possibility(
-            logic,
+            setting,
             p,
             x,
             f,
@@ -136,7 +135,7 @@ fn apply(
             wait,
         ),
         Consequence::AsNecessary(f) => apply_necessity(
-            logic,
+            setting,
             p,
             x,
             f,
@@ -168,7 +167,7 @@ fn next_step(steps: usize) -> usize
 
 // The contradictions of the tree after a rule, unless they are skipped; whether the run has proved. They were checked when the tree had `old` nodes.
 fn check(
-    skip: bool,
+    setting: Setting,
     proved: bool,
     formulas: &Formulas,
     count: usize,
@@ -176,10 +175,10 @@ fn check(
     len: usize,
     old: usize,
 ) -> bool
-    ensures { λ r. ⌜ ((F : Flags) (s : State) → skip ≡ F .skip → proved ≡ s .proved → Recorded (s .formulas) count (now (formulas .entry)) → count ≤ mostFormulas → Held (s .nodes) len (now (tree .entry)) → (F .skip ≡ false → len ≤ mostIdentifiers → Since (s .formulas) (s .nodes) old)
-        → Held (checkForContradictions F s .nodes) len (now (tree .exit)) × (len ≤ mostIdentifiers → r ≡ checkForContradictions F s .proved)) ⌝ }
+    ensures { λ r. ⌜ ((s : State) → proved ≡ s .proved → Recorded (s .formulas) count (now (formulas .entry)) → count ≤ mostFormulas → Held (s .nodes) len (now (tree .entry)) → (asked setting .skip ≡ false → len ≤ mostIdentifiers → Since (s .formulas) (s .nodes) old)
+        → Held (checkForContradictions (asked setting) s .nodes) len (now (tree .exit)) × (len ≤ mostIdentifiers → r ≡ checkForContradictions (asked setting) s .proved)) ⌝ }
 {
-    if skip {
+    if setting.skip {
         return proved;
     }
     let every = check_for_contradictions(formulas, count, tree, len, old);
@@ -190,12 +189,12 @@ fn check(
 }
 
 // The state before any step: contradictions are checked once, unless they are skipped.
-pub fn begin(skip: bool, p: Progress, formulas: &Formulas, tree: &mut Nodes) -> Progress
-    ensures { λ r. ⌜ ((F : Flags) (s : State) (ea ra la va oa wa ca : List ℕ) → skip ≡ F .skip → p .formulas ≤ mostFormulas → Since (s .formulas) (s .nodes) 0
-        → Laid s p (now (formulas .entry)) (now (tree .entry)) ea ra la va oa wa ca
-        → Kept (checkForContradictions F s) r (now (formulas .entry)) (now (tree .exit)) ea ra la va oa wa ca) ⌝ }
+pub fn begin(setting: Setting, p: Progress, formulas: &Formulas, tree: &mut Nodes) -> Progress
+    ensures { λ r. ⌜ ((s : State) (ea ra la va oa wa ca : List ℕ) → p .formulas ≤ mostFormulas → Since (s .formulas) (s .nodes) 0
+        → Laid (asked setting) s p (now (formulas .entry)) (now (tree .entry)) ea ra la va oa wa ca
+        → Kept (asked setting) (checkForContradictions (asked setting) s) r (now (formulas .entry)) (now (tree .exit)) ea ra la va oa wa ca) ⌝ }
 {
-    let proved = check(skip, p.proved, formulas, p.formulas, tree, p.nodes, 0);
+    let proved = check(setting, p.proved, formulas, p.formulas, tree, p.nodes, 0);
     Progress {
         formulas: p.formulas,
         nodes: p.nodes,
@@ -209,8 +208,7 @@ pub fn begin(skip: bool, p: Progress, formulas: &Formulas, tree: &mut Nodes) -> 
 
 // One step, where one is due; else the state stays.
 fn step(
-    logic: NormalModalLogic,
-    skip: bool,
+    setting: Setting,
     p: Progress,
     formulas: &mut Formulas,
     tree: &mut Nodes,
@@ -222,9 +220,9 @@ fn step(
     wait: &mut Waiting,
     classes: &mut Classes,
 ) -> Progress
-    ensures { λ r. ⌜ ((F : Flags) (k : ℕ) (s : State) → Flagged F logic skip → Fit F k s → Watch F s → AllRooted s
-        → Kept s p (now (formulas .entry)) (now (tree .entry)) (now (edges .entry)) (now (rows .entry)) (now (leaves .entry)) (now (visited .entry)) (now (order .entry)) (now (wait .entry)) (now (classes .entry))
-        → Kept (run 1 F s) r (now (formulas .exit)) (now (tree .exit)) (now (edges .exit)) (now (rows .exit)) (now (leaves .exit)) (now (visited .exit)) (now (order .exit)) (now (wait .exit)) (now (classes .exit))) ⌝ }
+    ensures { λ r. ⌜ ((k : ℕ) (s : State) → Fit (asked setting) k s → Watch (asked setting) s → AllRooted s
+        → Kept (asked setting) s p (now (formulas .entry)) (now (tree .entry)) (now (edges .entry)) (now (rows .entry)) (now (leaves .entry)) (now (visited .entry)) (now (order .entry)) (now (wait .entry)) (now (classes .entry))
+        → Kept (asked setting) (run 1 (asked setting) s) r (now (formulas .exit)) (now (tree .exit)) (now (edges .exit)) (now (rows .exit)) (now (leaves .exit)) (now (visited .exit)) (now (order .exit)) (now (wait .exit)) (now (classes .exit))) ⌝ }
 {
     if stops(p) {
         return p;
@@ -241,7 +239,7 @@ fn step(
                 necessities: p.necessities,
             };
             let a = apply(
-                logic,
+                setting,
                 sizes,
                 id,
                 rule,
@@ -269,7 +267,15 @@ fn step(
                 necessities: a.necessities,
                 waiting: a.waiting,
                 steps: next_step(p.steps),
-                proved: check(skip, p.proved, formulas, e.formulas, tree, a.nodes, p.nodes),
+                proved: check(
+                    setting,
+                    p.proved,
+                    formulas,
+                    e.formulas,
+                    tree,
+                    a.nodes,
+                    p.nodes,
+                ),
             }
         }
     }
@@ -277,8 +283,7 @@ fn step(
 
 // The steps until none is due.
 pub fn prove(
-    logic: NormalModalLogic,
-    skip: bool,
+    setting: Setting,
     begun: Progress,
     formulas: &mut Formulas,
     tree: &mut Nodes,
@@ -290,9 +295,9 @@ pub fn prove(
     wait: &mut Waiting,
     classes: &mut Classes,
 ) -> Progress
-    ensures { λ r. ⌜ ((F : Flags) (k : ℕ) (s : State) → Flagged F logic skip → Fit F k s → Watch F s → AllRooted s
-        → Kept s begun (now (formulas .entry)) (now (tree .entry)) (now (edges .entry)) (now (rows .entry)) (now (leaves .entry)) (now (visited .entry)) (now (order .entry)) (now (wait .entry)) (now (classes .entry))
-        → Kept (run (suc mostIdentifiers) F s) r (now (formulas .exit)) (now (tree .exit)) (now (edges .exit)) (now (rows .exit)) (now (leaves .exit)) (now (visited .exit)) (now (order .exit)) (now (wait .exit)) (now (classes .exit))) ⌝ }
+    ensures { λ r. ⌜ ((k : ℕ) (s : State) → Fit (asked setting) k s → Watch (asked setting) s → AllRooted s
+        → Kept (asked setting) s begun (now (formulas .entry)) (now (tree .entry)) (now (edges .entry)) (now (rows .entry)) (now (leaves .entry)) (now (visited .entry)) (now (order .entry)) (now (wait .entry)) (now (classes .entry))
+        → Kept (asked setting) (run (suc mostIdentifiers) (asked setting) s) r (now (formulas .exit)) (now (tree .exit)) (now (edges .exit)) (now (rows .exit)) (now (leaves .exit)) (now (visited .exit)) (now (order .exit)) (now (wait .exit)) (now (classes .exit))) ⌝ }
 {
     let mut p = begun;
     let mut n: usize = 0;
@@ -301,8 +306,7 @@ pub fn prove(
             return p;
         }
         p = step(
-            logic,
-            skip,
+            setting,
             p,
             formulas,
             tree,

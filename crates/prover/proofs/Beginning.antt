@@ -10,7 +10,7 @@ use Rattle.arrays.specs.Listed.{Listed}
 use Rattle.arrays.proofs.Listed.{listed-fits}
 use Rattle.definition.specs.Lists.{empty, below}
 use Rattle.definition.specs.Records.{Rec, decode, marks}
-use Rattle.definition.specs.Flags.{Flags}
+use Rattle.definition.specs.Setting.{Setting}
 use Rattle.definition.specs.Graph.{emptyGraph}
 use Rattle.definition.specs.Tree.{Node}
 use Rattle.definition.specs.Queue.{getNodePriority}
@@ -50,23 +50,23 @@ module _ (rs : List Rec) where
     unfolding begun
     begun-since = since-all rs (begun rs .nodes) (begun-treed rs some (omega (arith, begun-few))) (begun-unmarked rs)
 
-    begun-laid : {count len waiting : ℕ} {fa ta ea ra la va oa wa ca : List ℕ} → Recorded rs count fa → Held (rooted (branchNodes rs)) len ta → Listed (reverse (below (length (branchNodes rs)))) waiting wa →
-        Listed (map (getNodePriority rs (rooted (branchNodes rs))) (reverse (below (length (branchNodes rs))))) waiting ca → Drawn emptyGraph 0 ea → Stack [] 0 oa ra la va →
-        Laid (begun rs) (record { formulas = count; nodes = len; worlds = 0; necessities = 0; waiting = waiting; steps = 0; proved = false }) fa ta ea ra la va oa wa ca
+    begun-laid : (F : Setting) {count len waiting : ℕ} {fa ta ea ra la va oa wa ca : List ℕ} → Recorded rs count fa → Held (rooted (branchNodes rs)) len ta → Listed (reverse (below (length (branchNodes rs)))) waiting wa →
+        Listed (map (getNodePriority F rs (rooted (branchNodes rs))) (reverse (below (length (branchNodes rs))))) waiting ca → Drawn emptyGraph 0 ea → Stack [] 0 oa ra la va →
+        Laid F (begun rs) (record { formulas = count; nodes = len; worlds = 0; necessities = 0; waiting = waiting; steps = 0; proved = false }) fa ta ea ra la va oa wa ca
     unfolding begun
-    begun-laid r h w c g n =
+    begun-laid F r h w c g n =
         let k = held-ok h (held-fits h (omega (arith, begun-few))) in
         record { formulas = r; room = omega (arith, begun-few); count = k .0; nodes = k .1; graph = g; necessities = n; waiting = w; classes = c; proved = refl; steps = refl }
 
     -- records read, nodes linked, root queued, contradictions checked: the start
-    pub started : (F : Flags) {count len waiting : ℕ} {p : Progress} {fa ta tb ea ra la va oa wa ca : List ℕ} → length rs ≤ mostRecords → Drawn emptyGraph 0 ea → Stack [] 0 oa ra la va → Recorded rs count fa →
+    pub started : (F : Setting) {count len waiting : ℕ} {p : Progress} {fa ta tb ea ra la va oa wa ca : List ℕ} → length rs ≤ mostRecords → Drawn emptyGraph 0 ea → Stack [] 0 oa ra la va → Recorded rs count fa →
         (count ≤ mostFormulas → Held (rooted (branchNodes rs)) len ta) →
         (length (branchNodes rs) ≡ len → len ≤ mostIdentifiers → ta ≡ lay (rooted (branchNodes rs)) → Listed (reverse (below (length (branchNodes rs)))) waiting wa) →
-        ((ns : List Node) (q : List ℕ) → count ≤ mostFormulas → length ns ≤ mostIdentifiers → ta ≡ lay ns → Listed q waiting wa → waiting ≤ mostIdentifiers → Listed (map (getNodePriority rs ns) q) waiting ca) →
+        ((ns : List Node) (q : List ℕ) → count ≤ mostFormulas → length ns ≤ mostIdentifiers → ta ≡ lay ns → Listed q waiting wa → waiting ≤ mostIdentifiers → Listed (map (getNodePriority F rs ns) q) waiting ca) →
         (count ≤ mostFormulas → Since (begun rs .formulas) (begun rs .nodes) 0 →
-        Laid (begun rs) (record { formulas = count; nodes = len; worlds = 0; necessities = 0; waiting = waiting; steps = 0; proved = false }) fa ta ea ra la va oa wa ca →
-        Kept (checkForContradictions F (begun rs)) p fa tb ea ra la va oa wa ca) →
-        Kept (start F rs) p fa tb ea ra la va oa wa ca
+        Laid F (begun rs) (record { formulas = count; nodes = len; worlds = 0; necessities = 0; waiting = waiting; steps = 0; proved = false }) fa ta ea ra la va oa wa ca →
+        Kept F (checkForContradictions F (begun rs)) p fa tb ea ra la va oa wa ca) →
+        Kept F (start F rs) p fa tb ea ra la va oa wa ca
     unfolding start
     started F small g n r tree queue classify check =
         let fits = recorded-fits r (omega (arith, small)) in
@@ -75,4 +75,4 @@ module _ (rs : List Rec) where
         let k = held-ok h low in
         let w = queue (sym (length-rooted (branchNodes rs)) ∙ k .0) low (k .1) in
         let short : length (reverse (below (length (branchNodes rs)))) ≤ mostIdentifiers = omega (arith, length-reverse (below (length (branchNodes rs))), length-from (length (branchNodes rs)) 0, length-branch, few) in
-        check fits begun-since (begun-laid r h w (classify (rooted (branchNodes rs)) (reverse (below (length (branchNodes rs)))) fits (omega (arith, begun-few)) (k .1) w (listed-fits w short)) g n)
+        check fits begun-since (begun-laid F r h w (classify (rooted (branchNodes rs)) (reverse (below (length (branchNodes rs)))) fits (omega (arith, begun-few)) (k .1) w (listed-fits w short)) g n)

@@ -9,6 +9,7 @@ use lib.ListN.{length, replicate}
 use borrow.Author.Tests.{lt-ltb, le-ltb}
 use Rattle.definition.specs.Limits.{mostIdentifiers, worldLimit, graphWidth, nodeTrayLength, formulaTrayLength, edgeTrayLength}
 use Rattle.definition.specs.Lists.{concatMap}
+use Rattle.definition.specs.Setting.{Setting}
 use Rattle.definition.specs.Run
 use Rattle.definition.specs.Run.{State}
 use Rattle.definition.specs.Trays.{Trays, nodeBytes, recordBytes, rowNumber, padded, over, traysOf, zeroTrays, laidOver}
@@ -19,33 +20,33 @@ use Rattle.proof.specs.Kept.{Laid, Kept, kept, full}
 use Rattle.prover.specs.Contract.{trays}
 use Rattle.prover.specs.Parts.{Fits}
 
-module _ {s : State} {p : Progress} {fa ta ea ra la va oa wa ca : List ℕ} where
-  kept-full : Kept s p fa ta ea ra la va oa wa ca → mostIdentifiers < p .nodes → Run.full s ≡ true
+module _ {F : Setting} {s : State} {p : Progress} {fa ta ea ra la va oa wa ca : List ℕ} where
+  kept-full : Kept F s p fa ta ea ra la va oa wa ca → mostIdentifiers < p .nodes → Run.full s ≡ true
   unfolding Run.full
   kept-full (kept k) h = absurd (omega (arith, k .room, k .count))
   kept-full (full a b) h = lt-ltb mostIdentifiers (length (s .nodes)) b
 
-  pub kept-laid : Kept s p fa ta ea ra la va oa wa ca → p .nodes ≤ mostIdentifiers → Laid s p fa ta ea ra la va oa wa ca
+  pub kept-laid : Kept F s p fa ta ea ra la va oa wa ca → p .nodes ≤ mostIdentifiers → Laid F s p fa ta ea ra la va oa wa ca
   kept-laid (kept k) h = k
   kept-laid (full a b) h = absurd (omega arith)
 
-  pub laid-ended : Laid s p fa ta ea ra la va oa wa ca → Run.full s ≡ false
+  pub laid-ended : Laid F s p fa ta ea ra la va oa wa ca → Run.full s ≡ false
   unfolding Run.full
   laid-ended l = le-ltb mostIdentifiers (length (s .nodes)) (l .room)
 
   -- full: refusal 12, and the written lengths zeroed
   module _ (lent : Trays) {n f e : List ℕ} where
-    pub ends-full : Kept s p fa ta ea ra la va oa wa ca → mostIdentifiers < p .nodes → n ≡ over (replicate nodeTrayLength 0) (lent .nodes) → f ≡ over (replicate formulaTrayLength 0) (lent .formulas) → e ≡ over (replicate graphWidth 0) (lent .edges) →
-        (refusal 12 0 ≡ answerOf (outcomeOfRun s)) × (trays n f e ≡ traysAfter (outcomeOfRun s) lent)
+    pub ends-full : Kept F s p fa ta ea ra la va oa wa ca → mostIdentifiers < p .nodes → n ≡ over (replicate nodeTrayLength 0) (lent .nodes) → f ≡ over (replicate formulaTrayLength 0) (lent .formulas) → e ≡ over (replicate graphWidth 0) (lent .edges) →
+        (refusal 12 0 ≡ answerOf F (outcomeOfRun s)) × (trays n f e ≡ traysAfter (outcomeOfRun s) lent)
     unfolding outcomeOfRun answerOf traysAfter laidOver zeroTrays
     ends-full k h a b c = rw (kept-full k h, a, b, c) (refl, refl)
 
     -- ended: the verdict, and the trays laid out
-    pub ends-laid : Laid s p fa ta ea ra la va oa wa ca → Fits s → {i j k m : ℕ} →
+    pub ends-laid : Laid F s p fa ta ea ra la va oa wa ca → Fits s → {i j k m : ℕ} →
         n ≡ over (padded nodeTrayLength (concatMap nodeBytes (s .nodes))) (lent .nodes) → f ≡ over (padded formulaTrayLength (concatMap recordBytes (s .formulas))) (lent .formulas) →
         e ≡ over (padded edgeTrayLength (map rowNumber (s .graph .rows))) (lent .edges) →
         (p .nodes ≤ 65535 → i ≡ p .nodes) → (p .formulas ≤ 65535 → j ≡ p .formulas) → (p .worlds ≤ 65535 → k ≡ p .worlds) → (p .steps ≤ 65535 → m ≡ p .steps) →
-        (verdict (record { proved = p .proved; late = leb worldLimit (p .worlds); identifiers = i; formulas = j; worlds = k; steps = m }) ≡ answerOf (outcomeOfRun s)) ×
+        (verdict (record { proved = p .proved; late = leb worldLimit (p .worlds); identifiers = i; formulas = j; worlds = k; steps = m }) ≡ answerOf F (outcomeOfRun s)) ×
         (trays n f e ≡ traysAfter (outcomeOfRun s) lent)
     unfolding outcomeOfRun answerOf traysAfter laidOver traysOf late
     ends-laid l h {i} {j} {k} {m} a b c w x y z =

@@ -10,7 +10,7 @@ use lib.ListN.{length}
 use Rattle.definition.specs.Limits.{recordLength, mostRecords, mostMarked, mostIdentifiers, worldLimit}
 use Rattle.definition.specs.Lists.{Each, empty}
 use Rattle.definition.specs.Records.{Rec, Unknown, nobody, made, decode, recAt, marks}
-use Rattle.definition.specs.Flags.{Flags, flagsOf}
+use Rattle.definition.specs.Setting.{Setting, settingOf}
 use Rattle.definition.specs.Tree.{Node, newNode}
 use Rattle.definition.specs.Graph.{initializeGraphIfNeeded}
 use Rattle.definition.specs.Run.{State, full, start, run, final}
@@ -29,10 +29,8 @@ use Rattle.definition.proofs.Spawned.{AllRooted, rooted-start}
 use Rattle.definition.proofs.Ready.{Fit, fit-start}
 use Rattle.definition.proofs.Sound.{demand-3}
 use Rattle.definition.proofs.Completeness.Whole.{complete, exact}
-use Rattle.graph.specs.declared.NormalModalLogic.{NormalModalLogic}
-use Rattle.graph.specs.Logic.{logicOf}
 use Rattle.proof.specs.declared.Progress.{Progress}
-use Rattle.proof.specs.Kept.{Flagged, Kept}
+use Rattle.proof.specs.Kept.{Kept}
 use Rattle.prover.specs.Contract.{Contract}
 use Rattle.prover.specs.Said.{worldsOf}
 use Rattle.prover.specs.Parts.{Ends, Sized}
@@ -41,14 +39,14 @@ module _ (branch : List ℕ) (flags : ℕ) (lent : Trays) where
   abbrev o : Outcome
   o = outcome branch flags (lengthsOf lent)
 
-  keeps : (x : Outcome) (number place : ℕ) → answerOf x ≡ refusal number place → number ≤ 11 → traysAfter x lent ≡ lent
+  keeps : (x : Outcome) (number place : ℕ) → answerOf (settingOf flags) x ≡ refusal number place → number ≤ 11 → traysAfter x lent ≡ lent
   unfolding answerOf traysAfter
   keeps (Refused c) number place e h = refl
   keeps Full number place e h = let d : 12 ≡ number = cc in absurd (omega (arith, h, d))
   keeps (Ended s) number place e h = let d : _≡_ {A = ℕ} 0 1 = cc in absurd (omega arith)
 
   -- the answer and the trays give the other clauses
-  contracted : (r : Answer) (left : Trays) → r ≡ answerOf o → left ≡ traysAfter o lent → Contract branch flags lent r left
+  contracted : (r : Answer) (left : Trays) → r ≡ answerOf (settingOf flags) o → left ≡ traysAfter o lent → Contract branch flags lent r left
   unfolding answer traysLeft outcome
   contracted r left a t =
       let twelve = twelve-exactly branch flags lent in
@@ -68,19 +66,19 @@ module _ (branch : List ℕ) (flags : ℕ) (lent : Trays) where
   unfolding outcome outcomeBy answerOf traysAfter
   contract-refused number place e =
       let d : Refused (check number place true) ≡ o = ap (outcomeBy branch flags) e in
-      contracted _ lent (ap answerOf d) (ap (λ (x : Outcome). traysAfter x lent) d)
+      contracted _ lent (ap (answerOf (settingOf flags)) d) (ap (λ (x : Outcome). traysAfter x lent) d)
 
   -- accepted, and run
   contract-run : (r : Answer) (left : Trays) → refused branch flags (lengthsOf lent) ≡ none →
-      r ≡ answerOf (outcomeOfRun (final (flagsOf flags) (decode branch))) → left ≡ traysAfter (outcomeOfRun (final (flagsOf flags) (decode branch))) lent → Contract branch flags lent r left
+      r ≡ answerOf (settingOf flags) (outcomeOfRun (final (settingOf flags) (decode branch))) → left ≡ traysAfter (outcomeOfRun (final (settingOf flags) (decode branch))) lent → Contract branch flags lent r left
   unfolding outcome outcomeBy
   contract-run r left e a t =
-      let d : outcomeOfRun (final (flagsOf flags) (decode branch)) ≡ o = ap (outcomeBy branch flags) (sym e) in
-      contracted r left (a ∙ ap answerOf d) (t ∙ ap (λ (x : Outcome). traysAfter x lent) d)
+      let d : outcomeOfRun (final (settingOf flags) (decode branch)) ≡ o = ap (outcomeBy branch flags) (sym e) in
+      contracted r left (a ∙ ap (answerOf (settingOf flags)) d) (t ∙ ap (λ (x : Outcome). traysAfter x lent) d)
 
   module _ (a : Accepted branch flags (lengthsOf lent)) where
-    abbrev F : Flags
-    F = flagsOf flags
+    abbrev F : Setting
+    F = settingOf flags
 
     abbrev rs : List Rec
     rs = decode branch
@@ -114,15 +112,15 @@ module _ (branch : List ℕ) (flags : ℕ) (lent : Trays) where
         low h (inr d) = omega (arith, h, d)
 
     -- begun, run to its end, laid out
-    pub runs : {r : Answer} {left : Trays} {logic : NormalModalLogic} {skip : Bool} {p q : Progress} {fa ta ea ra la va oa wa ca fb tb eb rb lb vb ob wb cb : List ℕ} → refused branch flags (lengthsOf lent) ≡ none →
-        logic ≡ logicOf F → skip ≡ F .skip →
-        (length branch / recordLength ≤ mostRecords → empty (marks rs) ≡ false → length (marks rs) ≤ mostMarked → Kept (start F rs) p fa ta ea ra la va oa wa ca) →
-        (Flagged F logic skip → Fit F (length rs) (start F rs) → Watch F (start F rs) → AllRooted (start F rs) → Kept (start F rs) p fa ta ea ra la va oa wa ca → Kept (run (suc mostIdentifiers) F (start F rs)) q fb tb eb rb lb vb ob wb cb) →
-        (Kept (final F rs) q fb tb eb rb lb vb ob wb cb → Ends (final F rs) → Sized lent → (r ≡ answerOf (outcomeOfRun (final F rs))) × (left ≡ traysAfter (outcomeOfRun (final F rs)) lent)) →
+    pub runs : {r : Answer} {left : Trays} {G : Setting} {p q : Progress} {fa ta ea ra la va oa wa ca fb tb eb rb lb vb ob wb cb : List ℕ} → refused branch flags (lengthsOf lent) ≡ none →
+        G ≡ F →
+        (length branch / recordLength ≤ mostRecords → empty (marks rs) ≡ false → length (marks rs) ≤ mostMarked → Kept G (start G rs) p fa ta ea ra la va oa wa ca) →
+        (Fit G (length rs) (start G rs) → Watch G (start G rs) → AllRooted (start G rs) → Kept G (start G rs) p fa ta ea ra la va oa wa ca → Kept G (run (suc mostIdentifiers) G (start G rs)) q fb tb eb rb lb vb ob wb cb) →
+        (Kept F (final F rs) q fb tb eb rb lb vb ob wb cb → Ends (final F rs) → Sized lent → (r ≡ answerOf F (outcomeOfRun (final F rs))) × (left ≡ traysAfter (outcomeOfRun (final F rs)) lent)) →
         Contract branch flags lent r left
     unfolding final
-    runs e l k begin go finish =
-        let ran = go (record { logic = l; skip = k }) run-fit (watch-start F rs (a .marked)) (rooted-start F rs) (begin (omega (arith, length-decode branch, a .few)) (a .marked) (a .fewMarked)) in
+    runs e l begin go finish =
+        let ran = (rw l at go) run-fit (watch-start F rs (a .marked)) (rooted-start F rs) ((rw l at begin) (omega (arith, length-decode branch, a .few)) (a .marked) (a .fewMarked)) in
         let done = finish ran run-ends (a .trays) in
         contract-run _ _ e (done .0) (done .1)
 
@@ -132,15 +130,15 @@ unfolding answer outcome outcomeBy outcomeOfRun answerOf worldsOf
 answer-worlds branch flags lent = go (refused branch flags (lengthsOf lent)) refl
   where
     z : State
-    z = final (flagsOf flags) (decode branch)
+    z = final (settingOf flags) (decode branch)
 
-    ends : Accepted branch flags (lengthsOf lent) → (b : Bool) → full z ≡ b → worldsOf (answerOf (cond b Full (Ended z))) ≤ 255
+    ends : Accepted branch flags (lengthsOf lent) → (b : Bool) → full z ≡ b → worldsOf (answerOf (settingOf flags) (cond b Full (Ended z))) ≤ 255
     ends a true q = omega arith
     ends a false q =
         let P : Rec → Type 0 = λ r. Unit {0} in
         omega (arith, final-bounded branch flags (lengthsOf lent) a q P (λ r k. tt) (each-any P (λ r. tt) (decode branch)) .sizes .worlds)
 
-    go : (x : Option Check) → refused branch flags (lengthsOf lent) ≡ x → worldsOf (answerOf (outcomeBy branch flags x)) ≤ 255
+    go : (x : Option Check) → refused branch flags (lengthsOf lent) ≡ x → worldsOf (answerOf (settingOf flags) (outcomeBy branch flags x)) ≤ 255
     go (some c) q = omega arith
     go none q = ends (accepted branch flags (lengthsOf lent) q) (full z) refl
 

@@ -7,7 +7,7 @@ use mathlib.Core.Logic.{_↔_}
 use Prim.Native.Nat.{ℕ, _≤_}
 use Rattle.definition.specs.Records.{decode}
 use Rattle.definition.specs.Checks.{refused}
-use Rattle.definition.specs.Flags.{flagsOf, partialEquivalence}
+use Rattle.definition.specs.Setting.{settingOf, partialEquivalence}
 use Rattle.definition.specs.Run.{Passes}
 use Rattle.definition.specs.Trays.{Trays, zeroTrays, laidOver}
 use Rattle.definition.specs.Call.{Answer, refusal, answer, traysLeft, lengthsOf}
@@ -25,14 +25,14 @@ pub record Contract (branch : List ℕ) (flags : ℕ) (lent : Trays) (said : Ans
   -- "Refusals 1 to 11 write nothing"
   pub refusalsKeep : (number place : ℕ) → said ≡ refusal number place → number ≤ 11 → left ≡ lent
   -- demand 2: ""full" comes exactly when that run passes 512 identifiers": the run is the paper's own loop, which knows no 512
-  pub fullExactly : (said ≡ refusal 12 0) ↔ ((refused branch flags (lengthsOf lent) ≡ none) × Passes (flagsOf flags) (decode branch))
+  pub fullExactly : (said ≡ refusal 12 0) ↔ ((refused branch flags (lengthsOf lent) ≡ none) × Passes (settingOf flags) (decode branch))
   -- "12 zeroes the three lengths"
   pub fullZeroes : (place : ℕ) → said ≡ refusal 12 place → left ≡ laidOver zeroTrays lent
   -- demand 3: "if a verdict is returned in which `proved` is true, late beside it or not, then no world of any finite Kripke model
   -- with the flagged properties (..), however large, makes every formula of the branch true"
-  pub provedIsSound : Proved said → NoModel (flagsOf flags) (decode branch)
+  pub provedIsSound : Proved said → NoModel (settingOf flags) (decode branch)
   -- beyond the demands: where contradiction checks were not skipped, an open verdict has a model, read off the first open path: it has the flagged
   -- properties, and its world 0 makes every formula of the branch true
-  pub openHasModel : ChecksContradictions (flagsOf flags) → Open said → HasCountermodel (flagsOf flags) (decode branch)
+  pub openHasModel : ChecksContradictions (settingOf flags) → Open said → HasCountermodel (settingOf flags) (decode branch)
   -- so a verdict that is not late is exact, unless the flags are symmetric and transitive without reflexive
-  pub exactInTime : ChecksContradictions (flagsOf flags) → partialEquivalence (flagsOf flags) ≡ false → InTime said → (Proved said ↔ NoModel (flagsOf flags) (decode branch))
+  pub exactInTime : ChecksContradictions (settingOf flags) → partialEquivalence (settingOf flags) ≡ false → InTime said → (Proved said ↔ NoModel (settingOf flags) (decode branch))

@@ -4,7 +4,6 @@ use branch::begin_tree;
 use branch::read_records;
 use checks::Checked;
 use checks::check;
-use graph::NormalModalLogic;
 use limits::Classes;
 use limits::EDGE_CELLS;
 use limits::Edges;
@@ -21,6 +20,8 @@ use limits::WORLD_LIMIT;
 use limits::Waiting;
 use proof::Progress;
 use queue::classify;
+use setting::Setting;
+use setting::setting_of;
 use trays::clear;
 use trays::clear_edges;
 use trays::write_edges;
@@ -37,14 +38,14 @@ ghost use Rattle.definition.specs.Limits.{recordLength, mostRecords, mostMarked
 ghost use Rattle.arrays.specs.Listed.{Listed};
 ghost use Rattle.definition.specs.Lists.{empty};
 ghost use Rattle.definition.specs.Records.{decode, marks};
-ghost use Rattle.definition.specs.Flags.{Flags, flagsOf};
+ghost use Rattle.definition.specs.Setting as D;
 ghost use Rattle.definition.specs.Graph.{emptyGraph};
 ghost use Rattle.definition.specs.Run.{State, start};
 ghost use Rattle.definition.specs.Checks.{refused};
 ghost use Rattle.definition.specs.Call.{outcomeOfRun, answerOf, traysAfter, lengthsOf};
 ghost use Rattle.formula.specs.Recorded.{Recorded};
 ghost use Rattle.graph.specs.Drawn.{Drawn};
-ghost use Rattle.graph.specs.Logic.{logicOf};
+ghost use Rattle.setting.specs.Asked.{asked};
 ghost use Rattle.tree.specs.Lay.{Held};
 ghost use Rattle.necessities.specs.Stack.{Stack};
 ghost use Rattle.proof.specs.Kept.{Kept};
@@ -68,36 +69,18 @@ pub enum Answer {
     },
 }
 
-// The flag of a value: 1, 2, 4 or 8.
-fn flag(flags: u8, value: u8) -> bool
-    requires { ⌜ (value ≡ 0 → ⊥) ⌝ }
-    ensures { λ r. ⌜ r ≡ eqb (flags / value % 2) 1 ⌝ }
-{
-    flags / value % 2 == 1
-}
-
-fn logic_of(flags: u8) -> NormalModalLogic
-    ensures { λ r. ⌜ r ≡ logicOf (flagsOf flags) ⌝ }
-{
-    NormalModalLogic {
-        is_reflexive: flag(flags, 1),
-        is_symmetric: flag(flags, 2),
-        is_transitive: flag(flags, 4),
-    }
-}
-
 // The state before any step.
 fn begin(
     branch: &[u8],
-    skip: bool,
+    setting: Setting,
     formulas: &mut Formulas,
     tree: &mut Nodes,
     wait: &mut Waiting,
     classes: &mut Classes,
 ) -> Progress
-    ensures { λ r. ⌜ ((F : Flags) (ea ra la va oa : List ℕ) → skip ≡ F .skip → length (now (branch .entry)) / recordLength ≤ mostRecords → empty (marks (decode (now (branch .entry)))) ≡ false → length (marks (decode (now (branch .entry)))) ≤ mostMarked
+    ensures { λ r. ⌜ ((ea ra la va oa : List ℕ) → length (now (branch .entry)) / recordLength ≤ mostRecords → empty (marks (decode (now (branch .entry)))) ≡ false → length (marks (decode (now (branch .entry)))) ≤ mostMarked
         → Recorded [] 0 (now (formulas .entry)) → Held [] 0 (now (tree .entry)) → Listed [] 0 (now (wait .entry)) → Listed [] 0 (now (classes .entry)) → Drawn emptyGraph 0 ea → Stack [] 0 oa ra la va
-        → Kept (start F (decode (now (branch .entry)))) r (now (formulas .exit)) (now (tree .exit)) ea ra la va oa (now (wait .exit)) (now (classes .exit))) ⌝ }
+        → Kept (asked setting) (start (asked setting) (decode (now (branch .entry)))) r (now (formulas .exit)) (now (tree .exit)) ea ra la va oa (now (wait .exit)) (now (classes .exit))) ⌝ }
 {
     let count = read_records(branch, formulas);
     let len = begin_tree(formulas, count, tree);
@@ -112,7 +95,7 @@ fn begin(
         steps: 0,
         proved: false,
     };
-    proof::begin(skip, p, formulas, tree)
+    proof::begin(setting, p, formulas, tree)
 }
 
 // A count as the answer has it: none is above 65,535.
@@ -135,9 +118,9 @@ fn finish(
     formulas: &mut [u8],
     edges: &mut [u32],
 ) -> Answer
-    ensures { λ r. ⌜ ((s : State) (ra la va oa wa ca : List ℕ) → Kept s p (now (table .entry)) (now (tree .entry)) (now (graph .entry)) ra la va oa wa ca → Ends s
+    ensures { λ r. ⌜ ((F : D.Setting) (s : State) (ra la va oa wa ca : List ℕ) → Kept F s p (now (table .entry)) (now (tree .entry)) (now (graph .entry)) ra la va oa wa ca → Ends s
         → Sized (trays (now (nodes .entry)) (now (formulas .entry)) (now (edges .entry)))
-        → (said r ≡ answerOf (outcomeOfRun s))
+        → (said r ≡ answerOf F (outcomeOfRun s))
         × (trays (now (nodes .exit)) (now (formulas .exit)) (now (edges .exit)) ≡ traysAfter (outcomeOfRun s) (trays (now (nodes .entry)) (now (formulas .entry)) (now (edges .entry))))) ⌝ }
 {
     if MOST_IDENTIFIERS < p.nodes {
@@ -176,11 +159,17 @@ fn run(branch: &[u8], flags: u8, nodes: &mut [u8], formulas: &mut [u8], edges: &
     let mut order = [0u16; MOST_IDENTIFIERS];
     let mut wait = [0u16; MOST_IDENTIFIERS];
     let mut classes = [0u16; MOST_IDENTIFIERS];
-    let skip = flag(flags, 8);
-    let begun = begin(branch, skip, &mut table, &mut tree, &mut wait, &mut classes);
+    let setting = setting_of(flags);
+    let begun = begin(
+        branch,
+        setting,
+        &mut table,
+        &mut tree,
+        &mut wait,
+        &mut classes,
+    );
     let p = proof::prove(
-        logic_of(flags),
-        skip,
+        setting,
         begun,
         &mut table,
         &mut tree,

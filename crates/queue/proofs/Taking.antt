@@ -18,6 +18,7 @@ use Rattle.arrays.proofs.Listed.{listed-count, listed-fits}
 use Rattle.definition.specs.Lists.{orElse}
 use Rattle.definition.specs.Records.{Rec}
 use Rattle.definition.specs.Tree.{Node}
+use Rattle.definition.specs.Setting.{Setting}
 use Rattle.definition.specs.Queue as D
 use Rattle.queue.specs.declared.Popped.{Popped}
 use Rattle.queue.specs.declared.Popped.the-variants as P
@@ -58,16 +59,16 @@ module _ (p : ℕ → Bool) where
     first-none h = ap (D.popFirst p (take i q)) (drop-of-length-le q {i = i} h) ∙ first-nil (take i q)
 
 -- ---- what is left of the search
-module _ (rs : List Rec) (ns : List Node) (q : List ℕ) where
+module _ (F : Setting) (rs : List Rec) (ns : List Node) (q : List ℕ) where
   -- from class k on
   unfoldable pub fromClass : ℕ → Option D.Popped
-  fromClass k = D.popClass rs ns q (drop k (0 ∷ 1 ∷ 2 ∷ []))
+  fromClass k = D.popClass F rs ns q (drop k (0 ∷ 1 ∷ 2 ∷ []))
 
   -- from position i of class k on
   unfoldable pub fromPlace : ℕ → ℕ → Option D.Popped
-  fromPlace k i = orElse (D.popFirst (λ x. eqb (D.getNodePriority rs ns x) k) (take i q) (drop i q)) (fromClass (k + 1))
+  fromPlace k i = orElse (D.popFirst (λ x. eqb (D.getNodePriority F rs ns x) k) (take i q) (drop i q)) (fromClass (k + 1))
 
-  pub class-start : fromClass 0 ≡ D.pop rs ns q
+  pub class-start : fromClass 0 ≡ D.pop F rs ns q
   unfolding fromClass D.pop
   class-start = refl
 
@@ -82,18 +83,18 @@ module _ (rs : List Rec) (ns : List Node) (q : List ℕ) where
   class-step (suc (suc zero)) h = refl
   class-step (suc (suc (suc k))) h = absurd (omega arith)
 
-  pub place-hit : (k i : ℕ) → i < length q → D.getNodePriority rs ns (getD q i 0) ≡ k → fromPlace k i ≡ takenAt q i
+  pub place-hit : (k i : ℕ) → i < length q → D.getNodePriority F rs ns (getD q i 0) ≡ k → fromPlace k i ≡ takenAt q i
   unfolding fromPlace
   place-hit k i h e =
-      ap (λ (o : Option D.Popped). orElse o (fromClass (k + 1))) (first-hit (λ x. eqb (D.getNodePriority rs ns x) k) q i h (eq-eqb _ _ e) ∙ taken-in q i h) ∙ sym (taken-in q i h)
+      ap (λ (o : Option D.Popped). orElse o (fromClass (k + 1))) (first-hit (λ x. eqb (D.getNodePriority F rs ns x) k) q i h (eq-eqb _ _ e) ∙ taken-in q i h) ∙ sym (taken-in q i h)
 
-  pub place-miss : (k i : ℕ) → i < length q → (D.getNodePriority rs ns (getD q i 0) ≡ k → ⊥) → fromPlace k i ≡ fromPlace k (i + 1)
+  pub place-miss : (k i : ℕ) → i < length q → (D.getNodePriority F rs ns (getD q i 0) ≡ k → ⊥) → fromPlace k i ≡ fromPlace k (i + 1)
   unfolding fromPlace
-  place-miss k i h e = ap (λ (o : Option D.Popped). orElse o (fromClass (k + 1))) (first-miss (λ x. eqb (D.getNodePriority rs ns x) k) q i h (ne-eqb _ _ e))
+  place-miss k i h e = ap (λ (o : Option D.Popped). orElse o (fromClass (k + 1))) (first-miss (λ x. eqb (D.getNodePriority F rs ns x) k) q i h (ne-eqb _ _ e))
 
   pub place-end : (k i : ℕ) → length q ≤ i → fromPlace k i ≡ fromClass (k + 1)
   unfolding fromPlace
-  place-end k i h = ap (λ (o : Option D.Popped). orElse o (fromClass (k + 1))) (first-none (λ x. eqb (D.getNodePriority rs ns x) k) q i h)
+  place-end k i h = ap (λ (o : Option D.Popped). orElse o (fromClass (k + 1))) (first-none (λ x. eqb (D.getNodePriority F rs ns x) k) q i h)
 
 -- ---- the loops of `first_urgent`: the classes are listed
 get-map : (f : ℕ → ℕ) (q : List ℕ) (i : ℕ) → i < length q → getD (map f q) i 0 ≡ f (getD q i 0)
@@ -101,29 +102,29 @@ get-map f [] i h = absurd (omega arith)
 get-map f (x ∷ q) zero h = refl
 get-map f (x ∷ q) (suc i) h = get-map f q i (omega arith)
 
-module _ (rs : List Rec) (ns : List Node) (q : List ℕ) {n : ℕ} {a : List ℕ} (l : Listed (map (D.getNodePriority rs ns) q) n a) (g : n ≤ mostIdentifiers) where
+module _ (F : Setting) (rs : List Rec) (ns : List Node) (q : List ℕ) {n : ℕ} {a : List ℕ} (l : Listed (map (D.getNodePriority F rs ns) q) n a) (g : n ≤ mostIdentifiers) where
   pub many : length q ≡ n
-  many = sym (length-map q (D.getNodePriority rs ns)) ∙ listed-count l g
+  many = sym (length-map q (D.getNodePriority F rs ns)) ∙ listed-count l g
 
-  pub search-begin : (k : ℕ) → k < 3 → fromClass rs ns q k ≡ D.pop rs ns q → fromPlace rs ns q k 0 ≡ D.pop rs ns q
-  search-begin k h e = sym (class-step rs ns q k h) ∙ e
+  pub search-begin : (k : ℕ) → k < 3 → fromClass F rs ns q k ≡ D.pop F rs ns q → fromPlace F rs ns q k 0 ≡ D.pop F rs ns q
+  search-begin k h e = sym (class-step F rs ns q k h) ∙ e
 
-  pub search-next : (k i : ℕ) → n ≤ i → fromPlace rs ns q k i ≡ D.pop rs ns q → fromClass rs ns q (k + 1) ≡ D.pop rs ns q
-  search-next k i h e = sym (place-end rs ns q k i (omega (arith, many))) ∙ e
+  pub search-next : (k i : ℕ) → n ≤ i → fromPlace F rs ns q k i ≡ D.pop F rs ns q → fromClass F rs ns q (k + 1) ≡ D.pop F rs ns q
+  search-next k i h e = sym (place-end F rs ns q k i (omega (arith, many))) ∙ e
 
-  pub search-end : (k : ℕ) → k ≡ 3 → fromClass rs ns q k ≡ D.pop rs ns q → D.pop rs ns q ≡ takenAt q n
-  search-end k z e = sym e ∙ class-end rs ns q k z ∙ sym (taken-out q n (omega (arith, many)))
+  pub search-end : (k : ℕ) → k ≡ 3 → fromClass F rs ns q k ≡ D.pop F rs ns q → D.pop F rs ns q ≡ takenAt q n
+  search-end k z e = sym e ∙ class-end F rs ns q k z ∙ sym (taken-out q n (omega (arith, many)))
 
   -- v is read at position i
-  module _ (k i v : ℕ) (h : i < n) (e : fromPlace rs ns q k i ≡ D.pop rs ns q) (read : (l : List ℕ) (m : ℕ) → Listed l m a → m ≤ mostIdentifiers → v ≡ getD l i 0) where
-    seen : v ≡ D.getNodePriority rs ns (getD q i 0)
-    seen = read _ n l g ∙ get-map (D.getNodePriority rs ns) q i (omega (arith, many, h))
+  module _ (k i v : ℕ) (h : i < n) (e : fromPlace F rs ns q k i ≡ D.pop F rs ns q) (read : (l : List ℕ) (m : ℕ) → Listed l m a → m ≤ mostIdentifiers → v ≡ getD l i 0) where
+    seen : v ≡ D.getNodePriority F rs ns (getD q i 0)
+    seen = read _ n l g ∙ get-map (D.getNodePriority F rs ns) q i (omega (arith, many, h))
 
-    pub search-hit : v ≡ k → D.pop rs ns q ≡ takenAt q i
-    search-hit z = sym e ∙ place-hit rs ns q k i (omega (arith, many)) (sym seen ∙ z)
+    pub search-hit : v ≡ k → D.pop F rs ns q ≡ takenAt q i
+    search-hit z = sym e ∙ place-hit F rs ns q k i (omega (arith, many)) (sym seen ∙ z)
 
-    pub search-miss : (v ≡ k → ⊥) → fromPlace rs ns q k (i + 1) ≡ D.pop rs ns q
-    search-miss z = sym (place-miss rs ns q k i (omega (arith, many)) (λ y. z (seen ∙ y))) ∙ e
+    pub search-miss : (v ≡ k → ⊥) → fromPlace F rs ns q k (i + 1) ≡ D.pop F rs ns q
+    search-miss z = sym (place-miss F rs ns q k i (omega (arith, many)) (λ y. z (seen ∙ y))) ∙ e
 
 -- ---- the loop of `classify`: those before position i are listed
 take-map : (f : ℕ → ℕ) (i : ℕ) (q : List ℕ) → map f (take i q) ≡ take i (map f q)

@@ -21,6 +21,7 @@ ghost use Rattle.definition.specs.Limits.{mostIdentifiers, mostFormulas};
 ghost use Rattle.arrays.specs.Listed.{Listed};
 ghost use Rattle.definition.specs.Records.{Rec};
 ghost use Rattle.definition.specs.Tree.{Node};
+ghost use Rattle.definition.specs.Setting.{Setting};
 ghost use Rattle.definition.specs.Queue.{getNodePriority, pop};
 ghost use Rattle.formula.specs.Recorded.{Recorded};
 ghost use Rattle.tree.specs.Lay.{lay};
@@ -35,8 +36,8 @@ pub enum Popped {
 
 // The class of a node: 0 is first, 1 in the middle, 2 last.
 fn get_node_priority(formulas: &Formulas, count: usize, tree: &Nodes, x: ProofTreeNodeID) -> u16
-    ensures { λ r. ⌜ ((rs : List Rec) (ns : List Node) → Recorded rs count (now (formulas .entry)) → count ≤ mostFormulas → length ns ≤ mostIdentifiers → now (tree .entry) ≡ lay ns
-        → r ≡ getNodePriority rs ns (x .0)) ⌝ }
+    ensures { λ r. ⌜ ((F : Setting) (rs : List Rec) (ns : List Node) → Recorded rs count (now (formulas .entry)) → count ≤ mostFormulas → length ns ≤ mostIdentifiers → now (tree .entry) ≡ lay ns
+        → r ≡ getNodePriority F rs ns (x .0)) ⌝ }
 {
     priority_of(formulas, count, formula_of(tree, x))
 }
@@ -51,9 +52,9 @@ pub fn classify(
     classes: &mut Classes,
     m: usize,
 )
-    ensures { λ r. ⌜ ((rs : List Rec) (ns : List Node) (q more : List ℕ) → Recorded rs count (now (formulas .entry)) → count ≤ mostFormulas → length ns ≤ mostIdentifiers → now (tree .entry) ≡ lay ns
-        → Listed (q ++ more) n (now (wait .entry)) → n ≤ mostIdentifiers → length q ≡ m → Listed (map (getNodePriority rs ns) q) m (now (classes .entry))
-        → Listed (map (getNodePriority rs ns) (q ++ more)) n (now (classes .exit))) ⌝ }
+    ensures { λ r. ⌜ ((F : Setting) (rs : List Rec) (ns : List Node) (q more : List ℕ) → Recorded rs count (now (formulas .entry)) → count ≤ mostFormulas → length ns ≤ mostIdentifiers → now (tree .entry) ≡ lay ns
+        → Listed (q ++ more) n (now (wait .entry)) → n ≤ mostIdentifiers → length q ≡ m → Listed (map (getNodePriority F rs ns) q) m (now (classes .entry))
+        → Listed (map (getNodePriority F rs ns) (q ++ more)) n (now (classes .exit))) ⌝ }
 {
     let mut i = m;
     while i < n {
@@ -66,7 +67,7 @@ pub fn classify(
 
 // The position of the first waiting node of the most urgent class; n where none waits.
 fn first_urgent(classes: &Classes, n: usize) -> usize
-    ensures { λ r. ⌜ ((rs : List Rec) (ns : List Node) (q : List ℕ) → Listed (map (getNodePriority rs ns) q) n (now (classes .entry)) → n ≤ mostIdentifiers → pop rs ns q ≡ takenAt q r) ⌝ }
+    ensures { λ r. ⌜ ((F : Setting) (rs : List Rec) (ns : List Node) (q : List ℕ) → Listed (map (getNodePriority F rs ns) q) n (now (classes .entry)) → n ≤ mostIdentifiers → pop F rs ns q ≡ takenAt q r) ⌝ }
 {
     let mut class: u16 = 0;
     'classes: loop {
@@ -86,9 +87,9 @@ fn first_urgent(classes: &Classes, n: usize) -> usize
 
 // Takes the first waiting node of the most urgent class out, and its class.
 pub fn pop(wait: &mut Waiting, classes: &mut Classes, n: usize) -> Popped
-    ensures { λ r. ⌜ ((rs : List Rec) (ns : List Node) (q : List ℕ) → Listed q n (now (wait .entry)) → Listed (map (getNodePriority rs ns) q) n (now (classes .entry)) → n ≤ mostIdentifiers
-        → (r ≡ answer (pop rs ns q)) × Listed (afterwards q (pop rs ns q)) (length (afterwards q (pop rs ns q))) (now (wait .exit))
-        × Listed (map (getNodePriority rs ns) (afterwards q (pop rs ns q))) (length (afterwards q (pop rs ns q))) (now (classes .exit))) ⌝ }
+    ensures { λ r. ⌜ ((F : Setting) (rs : List Rec) (ns : List Node) (q : List ℕ) → Listed q n (now (wait .entry)) → Listed (map (getNodePriority F rs ns) q) n (now (classes .entry)) → n ≤ mostIdentifiers
+        → (r ≡ answer (pop F rs ns q)) × Listed (afterwards q (pop F rs ns q)) (length (afterwards q (pop F rs ns q))) (now (wait .exit))
+        × Listed (map (getNodePriority F rs ns) (afterwards q (pop F rs ns q))) (length (afterwards q (pop F rs ns q))) (now (classes .exit))) ⌝ }
 {
     let at = first_urgent(classes, n);
     if n <= at {

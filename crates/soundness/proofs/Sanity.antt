@@ -10,7 +10,7 @@ use Rattle.definition.specs.Records
 use Rattle.definition.specs.Records.{decode, marks}
 use Rattle.definition.specs.Formula
 use Rattle.definition.specs.Formula.{formAt}
-use Rattle.definition.specs.Flags.{flagsOf}
+use Rattle.definition.specs.Setting.{settingOf}
 use Rattle.definition.specs.Models.{Model, Has, truth}
 use Rattle.definition.specs.Call.{answerOf}
 use Rattle.definition.specs.Claim.{Proved}
@@ -38,8 +38,8 @@ branch = bytes deadEnd
 lonely : Model
 lonely = record { size = 1; reach = λ a b. false; value = λ w a. eqb a 2 }
 
-lonely-has : Has (flagsOf 6) lonely
-unfolding lonely flagsOf
+lonely-has : Has (settingOf 6) lonely
+unfolding lonely settingOf
 lonely-has = record { reflexive = λ e. true-false (sym e); symmetric = λ _ _ _ _ _ e. true-false (sym e); transitive = λ _ _ _ _ _ _ _ e. true-false (sym e) }
 
 lonely-size : 0 < lonely .size
@@ -54,7 +54,7 @@ lonely-reaches : (v : ℕ) → lonely .reach 0 v ≡ false
 unfolding lonely
 lonely-reaches v = refl
 
-proved-there : Proved (answerOf (computed branch 6 exactly))
+proved-there : Proved (answerOf (settingOf 6) (computed branch 6 exactly))
 unfolding computed answerOf
 proved-there = refl
 

@@ -13,7 +13,7 @@ use lib.ListN.{length}
 use Rattle.definition.specs.Limits.{mostIdentifiers, worldLimit, graphWidth}
 use Rattle.definition.specs.Lists.{Each, empty, below}
 use Rattle.definition.specs.Records.{Rec, decode, nobody}
-use Rattle.definition.specs.Flags.{Flags, flagsOf}
+use Rattle.definition.specs.Setting.{Setting, settingOf}
 use Rattle.definition.specs.Checks.{Lengths}
 use Rattle.definition.specs.Tree.{Node, Place, Left, Middle, Right, Root, Unplaced, childless, nodeAt}
 use Rattle.definition.specs.Graph.{initializeGraphIfNeeded}
@@ -59,12 +59,12 @@ rules-are-priests branch flags lent e n = rule-is-priest _ (Calls.run-linked bra
 
 pub run-stops : Stops
 unfolding stops ended full
-run-stops F rs = go (or-cases (ended z) (full z) (Exact.final-stops F rs))
+run-stops F rs = go (or-cases (ended F z) (full z) (Exact.final-stops F rs))
   where
     z : State
     z = final F rs
 
-    go : (ended z ≡ true) ⊎ (full z ≡ true) →
+    go : (ended F z ≡ true) ⊎ (full z ≡ true) →
         (z .proved ≡ true) ⊎ ((empty (z .waiting) ≡ true) ⊎ ((worldLimit ≤ z .graph .worlds) ⊎ (mostIdentifiers < length (z .nodes))))
     go (inr q) = inr (inr (inr (ltb-true mostIdentifiers (length (z .nodes)) q)))
     go (inl q) = first (or-cases (z .proved) _ q)
@@ -153,15 +153,15 @@ pub trees-of-step : TreesOfStep
 trees-of-step F rs n e x q before after d small =
     is-tree _ (reached-between F rs (unlimitedRun n F (start F rs)) x q before after (record { branch = e; ends = ended; bound = n; is = refl }) d small .0)
 
-module _ (branch : List ℕ) (flags : ℕ) (lent : Lengths) (a : Accepted branch flags lent) (e : full (final (flagsOf flags) (decode branch)) ≡ false) where
-  abbrev F : Flags
-  F = flagsOf flags
+module _ (branch : List ℕ) (flags : ℕ) (lent : Lengths) (a : Accepted branch flags lent) (e : full (final (settingOf flags) (decode branch)) ≡ false) where
+  abbrev F : Setting
+  F = settingOf flags
 
   abbrev rs : List Rec
   rs = decode branch
 
   abbrev z : State
-  z = final (flagsOf flags) (decode branch)
+  z = final (settingOf flags) (decode branch)
 
   final-fits : Each Bounds.RecordFits rs → Fits z
   final-fits fit =

@@ -11,7 +11,7 @@ use Rattle.definition.specs.Limits.{mostIdentifiers, worldLimit, graphWidth, mo
 use Rattle.definition.specs.Lists.{Each, Distinct, empty}
 use Rattle.definition.specs.Records.{Rec, nobody, isNobody, decode, marks, numberOf}
 use Rattle.definition.specs.Formula.{formAt}
-use Rattle.definition.specs.Flags.{Flags, flagsOf}
+use Rattle.definition.specs.Setting.{Setting, settingOf}
 use Rattle.definition.specs.Checks.{Lengths, LongEnough, Check, refused}
 use Rattle.definition.specs.Models.{Model, Has}
 use Rattle.definition.specs.Tree.{Node, Place, Left, Middle, Right, Root, Unplaced, nodeAt, leavesBelow, upward, leaves, path}
@@ -29,42 +29,42 @@ use Rattle.definition.specs.Cases.{bytes, deadEnd}
 -- of Priest's table. Of closing, worlds and edges this says nothing: there demand 3 speaks
 abbrev pub RulesArePriests : Type 0
 RulesArePriests =
-    (branch : List ℕ) (flags : ℕ) (lent : Lengths) → refused branch flags lent ≡ none → (n : ℕ) → let rs = run n (flagsOf flags) (start (flagsOf flags) (decode branch)) .formulas in
+    (branch : List ℕ) (flags : ℕ) (lent : Lengths) → refused branch flags lent ≡ none → (n : ℕ) → let rs = run n (settingOf flags) (start (settingOf flags) (decode branch)) .formulas in
     (f : ℕ) → f < length rs → isNobody f ≡ false →
     writtenRule (formAt (rs ++ expansion rs f .made)) (expansion rs f .rule) ≡ priest (formAt rs f)
 
 -- the run stops by itself: where it stops, it is proved, nothing waits, 25 worlds exist, or it is full; more steps change nothing
 abbrev pub Stops : Type 0
 Stops =
-    (F : Flags) (rs : List Rec) →
+    (F : Setting) (rs : List Rec) →
     (final F rs .proved ≡ true) ⊎ ((empty (final F rs .waiting) ≡ true) ⊎ ((worldLimit ≤ final F rs .graph .worlds) ⊎ (mostIdentifiers < length (final F rs .nodes))))
 
 abbrev pub StaysStopped : Type 0
-StaysStopped = (k : ℕ) (F : Flags) (rs : List Rec) → mostIdentifiers < k → run k F (start F rs) ≡ final F rs
+StaysStopped = (k : ℕ) (F : Setting) (rs : List Rec) → mostIdentifiers < k → run k F (start F rs) ≡ final F rs
 
 -- "full" comes exactly when the paper's own loop passes 512 identifiers; otherwise the two runs are one
 abbrev pub FullExactly : Type 0
-FullExactly = (F : Flags) (rs : List Rec) → (full (final F rs) ≡ true) ↔ Passes F rs
+FullExactly = (F : Setting) (rs : List Rec) → (full (final F rs) ≡ true) ↔ Passes F rs
 
 abbrev pub NotFullExactly : Type 0
-NotFullExactly = (k : ℕ) (F : Flags) (rs : List Rec) → mostIdentifiers < k → full (final F rs) ≡ false → unlimitedRun k F (start F rs) ≡ final F rs
+NotFullExactly = (k : ℕ) (F : Setting) (rs : List Rec) → mostIdentifiers < k → full (final F rs) ≡ false → unlimitedRun k F (start F rs) ≡ final F rs
 
 -- so the call refuses with 12 exactly if no check applies and that loop passes 512, and zeroes the three lengths
 abbrev pub TwelveExactly : Type 0
 TwelveExactly =
     (branch : List ℕ) (flags : ℕ) (lent : Trays) →
-    (answer branch flags lent ≡ refusal 12 0) ↔ ((refused branch flags (lengthsOf lent) ≡ none) × Passes (flagsOf flags) (decode branch))
+    (answer branch flags lent ≡ refusal 12 0) ↔ ((refused branch flags (lengthsOf lent) ≡ none) × Passes (settingOf flags) (decode branch))
 
 abbrev pub TwelveZeroes : Type 0
 TwelveZeroes = (branch : List ℕ) (flags : ℕ) (lent : Trays) (place : ℕ) → answer branch flags lent ≡ refusal 12 place → traysLeft branch flags lent ≡ laidOver zeroTrays lent
 
 -- "each identifier once": at every state, those that steps have taken and those that wait are as many as there are
 abbrev pub QueueCounts : Type 0
-QueueCounts = (n : ℕ) (F : Flags) (rs : List Rec) → let s = unlimitedRun n F (start F rs) in s .steps + length (s .waiting) ≡ length (s .nodes)
+QueueCounts = (n : ℕ) (F : Setting) (rs : List Rec) → let s = unlimitedRun n F (start F rs) in s .steps + length (s .waiting) ≡ length (s .nodes)
 
 -- no step, and no part of a step, takes an identifier back
 abbrev pub StepsGrow : Type 0
-StepsGrow = (F : Flags) (s : State) → length (s .nodes) ≤ length (step F s .nodes)
+StepsGrow = (F : Setting) (s : State) → length (s .nodes) ≤ length (step F s .nodes)
 
 abbrev pub PartsGrow : Type 0
 PartsGrow =
@@ -94,11 +94,11 @@ pub record IsTree (t : List Node) : Type 0 where
 
 -- at every state of a run of a marked branch, and between two placings of one step, as long as 65535, which is nobody, is not issued
 abbrev pub TreesOfRun : Type 0
-TreesOfRun = (F : Flags) (rs : List Rec) (n : ℕ) → empty (marks rs) ≡ false → length (unlimitedRun n F (start F rs) .nodes) ≤ nobody → IsTree (unlimitedRun n F (start F rs) .nodes)
+TreesOfRun = (F : Setting) (rs : List Rec) (n : ℕ) → empty (marks rs) ≡ false → length (unlimitedRun n F (start F rs) .nodes) ≤ nobody → IsTree (unlimitedRun n F (start F rs) .nodes)
 
 abbrev pub TreesOfStep : Type 0
 TreesOfStep =
-    (F : Flags) (rs : List Rec) (n : ℕ) → empty (marks rs) ≡ false → let s = unlimitedRun n F (start F rs) in
+    (F : Setting) (rs : List Rec) (n : ℕ) → empty (marks rs) ≡ false → let s = unlimitedRun n F (start F rs) in
     (x : ℕ) (q : List ℕ) (before after : List Targeted) → apply F s x .subtrees ≡ before ++ after →
     length (appendLogicRuleResult (s .nodes ++ apply F s x .nodes) q before .nodes) ≤ nobody → IsTree (appendLogicRuleResult (s .nodes ++ apply F s x .nodes) q before .nodes)
 
@@ -159,24 +159,24 @@ RefusalsWriteNothing = (branch : List ℕ) (flags : ℕ) (lent : Trays) (c : Che
 
 -- demand 3 is not empty: every set of flags has a model with a world of which it speaks
 abbrev pub ModelsExist : Type 0
-ModelsExist = (F : Flags) (value : ℕ → ℕ → Bool) → (M : Model) × Has F M × (0 < M .size) × Reaching F M 0 × (M .value ≡ value)
+ModelsExist = (F : Setting) (value : ℕ → ℕ → Bool) → (M : Model) × Has F M × (0 < M .size) × Reaching F M 0 × (M .value ≡ value)
 
 -- and its second half is needed: the starred branch with flags 6 is proved, and true at a world that reaches nothing
 abbrev pub DeadEnd : Type 0
 DeadEnd =
     let branch = bytes deadEnd in
     ((lent : Trays) → LongEnough (lengthsOf lent) → Proved (answer branch 6 lent)) ×
-    ((M : Model) × Has (flagsOf 6) M × (0 < M .size) × ((v : ℕ) → M .reach 0 v ≡ false) × Satisfied (decode branch) M 0)
+    ((M : Model) × Has (settingOf 6) M × (0 < M .size) × ((v : ℕ) → M .reach 0 v ≡ false) × Satisfied (decode branch) M 0)
 
 -- a branch without a modal connective, whatever the frame properties and with no bound on its atoms: a verdict of a run that checks contradictions is proved
 -- exactly if no assignment makes every formula of the branch true
 abbrev pub Decides : Type 0
 Decides =
-    (branch : List ℕ) (flags : ℕ) (lent : Trays) (v : Verdict) → answer branch flags lent ≡ verdict v → ChecksContradictions (flagsOf flags) → PlainBranch (decode branch) →
+    (branch : List ℕ) (flags : ℕ) (lent : Trays) (v : Verdict) → answer branch flags lent ≡ verdict v → ChecksContradictions (settingOf flags) → PlainBranch (decode branch) →
     ((v .proved ≡ true) ↔ ((a : ℕ → Bool) → Satisfies a (decode branch) → ⊥))
 
 -- and where it is not proved, there is one
 abbrev pub HasAssignment : Type 0
 HasAssignment =
-    (branch : List ℕ) (flags : ℕ) (lent : Trays) (v : Verdict) → answer branch flags lent ≡ verdict v → ChecksContradictions (flagsOf flags) → PlainBranch (decode branch) →
+    (branch : List ℕ) (flags : ℕ) (lent : Trays) (v : Verdict) → answer branch flags lent ≡ verdict v → ChecksContradictions (settingOf flags) → PlainBranch (decode branch) →
     v .proved ≡ false → (a : ℕ → Bool) × Satisfies a (decode branch)

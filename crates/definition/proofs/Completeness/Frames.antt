@@ -9,13 +9,13 @@ use lib.Dec.{eqb}
 use borrow.Author.Tests.{eqb-true, eq-eqb, ne-eqb}
 use lib.ListN.{getD}
 use Rattle.definition.specs.Lists.{upFrom, below, any}
-use Rattle.definition.specs.Flags.{Flags, partialEquivalence}
+use Rattle.definition.specs.Setting.{Setting, partialEquivalence}
 use Rattle.definition.specs.Graph.{Graph, edge, graphOf, addMissingReflexiveVertices, addMissingSymmetricVertices, paired, addMissingTransitiveVertices, addMissingGraphVertices, initializeGraphIfNeeded, fork}
 use Rattle.definition.proofs.Lists.{true-false, either, alike, cond-both, and-left, and-right, or-cases, or-true, any-below, any-below-of}
 use Rattle.definition.proofs.Edges.{edge-graph}
 
 -- g has the flagged properties; with symmetric and transitive every world reaches every world, but for world 0 alone
-pub record Frame (F : Flags) (g : Graph) : Type 0 where
+pub record Frame (F : Setting) (g : Graph) : Type 0 where
   pub within : (a b : ℕ) → edge g a b ≡ true → (a < g .worlds) × (b < g .worlds)
   pub reflexive : F .reflexive ≡ true → (a : ℕ) → a < g .worlds → edge g a a ≡ true
   pub symmetric : F .symmetric ≡ true → (a b : ℕ) → edge g a b ≡ true → edge g b a ≡ true
@@ -23,7 +23,7 @@ pub record Frame (F : Flags) (g : Graph) : Type 0 where
   pub total : F .symmetric ≡ true → F .transitive ≡ true → ((a b : ℕ) → a < g .worlds → b < g .worlds → edge g a b ≡ true) ⊎ ((partialEquivalence F ≡ true) × (g .worlds ≡ 1))
 
 -- h is g with one more world, that u reaches
-pub record Forked (F : Flags) (g : Graph) (u : ℕ) (h : Graph) : Type 0 where
+pub record Forked (F : Setting) (g : Graph) (u : ℕ) (h : Graph) : Type 0 where
   pub worlds : h .worlds ≡ suc (g .worlds)
   pub framed : Frame F h
   pub keeps : (a b : ℕ) → edge g a b ≡ true → edge h a b ≡ true
@@ -68,7 +68,7 @@ scanned true n E X g t k h =
     )))
 scanned false n E X g t k h = is-as k (λ a b l m. (inl, elim [ inl e ↦ e | inr e ↦ true-false (sym (e .0)) ]))
 
-module _ (F : Flags) (E : Relation) where
+module _ (F : Setting) (E : Relation) where
   -- E after each scan that is flagged
   abbrev Looped : Relation
   Looped a b = E a b ⊎ ((F .reflexive ≡ true) × (a ≡ b))
@@ -119,7 +119,7 @@ module _ (F : Flags) (E : Relation) where
       turn q a b (inl e) = inl (back q a b e)
       turn q a b (inr (t, (v, l, d, e))) = inr (t, (v, l, back q v b e, back q a v d))
 
-module _ (F : Flags) (g : Graph) (u : ℕ) (inside : u < g .worlds) (f : Frame F g) where
+module _ (F : Setting) (g : Graph) (u : ℕ) (inside : u < g .worlds) (f : Frame F g) where
   abbrev n : ℕ
   n = g .worlds
 
@@ -203,7 +203,7 @@ module _ (F : Flags) (g : Graph) (u : ℕ) (inside : u < g .worlds) (f : Frame F
         parent = k .into u n (omega arith) (omega arith) (inl (inl (inl (inr (refl, refl)))));
       }
 
-pub init-framed : (F : Flags) (g : Graph) → (g .worlds ≡ 0) ⊎ Frame F g → Frame F (initializeGraphIfNeeded F g)
+pub init-framed : (F : Setting) (g : Graph) → (g .worlds ≡ 0) ⊎ Frame F g → Frame F (initializeGraphIfNeeded F g)
 unfolding initializeGraphIfNeeded partialEquivalence graphOf
 init-framed F g h = elim h [ inl e ↦ rw e one | inr f ↦ cond-both (Frame F) (eqb (g .worlds) 0) _ g one f ]
   where
@@ -215,6 +215,6 @@ init-framed F g h = elim h [ inl e ↦ rw e one | inr f ↦ cond-both (Frame F) 
         (λ s t. elim (either (F .reflexive)) [ inl r ↦ inl (λ a b l m. inl (inl (inr (r, omega arith)))) | inr r ↦ inr (rw (s, t, r), refl) ])
 
 -- a graph that has a world is begun already
-pub init-same : (F : Flags) (g : Graph) → 0 < g .worlds → initializeGraphIfNeeded F g ≡ g
+pub init-same : (F : Setting) (g : Graph) → 0 < g .worlds → initializeGraphIfNeeded F g ≡ g
 unfolding initializeGraphIfNeeded
 init-same F g h = rw (ne-eqb (g .worlds) 0 (omega arith))

@@ -9,7 +9,7 @@ use lib.ListN.{length, length-map}
 use Rattle.definition.specs.Lists.{Each, elem}
 use Rattle.definition.specs.Records.{Rec}
 use Rattle.definition.specs.Formula.{Form, formAt}
-use Rattle.definition.specs.Flags.{Flags}
+use Rattle.definition.specs.Setting.{Setting}
 use Rattle.definition.specs.Graph.{initializeGraphIfNeeded}
 use Rattle.definition.specs.Tree.{Node, newNode, nodeAt, path}
 use Rattle.definition.specs.Rules.{Rule, nothing, down, split, asPossible, asNecessary, expansion, writtenRule}
@@ -42,7 +42,7 @@ chains (split fs gs) = withLeftRight fs gs
 chains (asPossible f) = withMiddle []
 chains (asNecessary f) = withMiddle []
 
-rule-here : (F : Flags) (s : State) (x : ℕ) (more : List Rec) (c : Rule ℕ) → Here c → applyRule F s x more c ≡ applyHere s x more (chains c)
+rule-here : (F : Setting) (s : State) (x : ℕ) (more : List Rec) (c : Rule ℕ) → Here c → applyRule F s x more c ≡ applyHere s x more (chains c)
 unfolding applyRule
 rule-here F s x more nothing h = refl
 rule-here F s x more (down fs) h = refl
@@ -50,13 +50,13 @@ rule-here F s x more (split fs gs) h = refl
 rule-here F s x more (asPossible f) h = absurd h
 rule-here F s x more (asNecessary f) h = absurd h
 
-pub apply-here : (F : Flags) (s : State) (x : ℕ) (c : Rule ℕ) → Here c → expansion (s .formulas) (nodeAt (s .nodes) x .formula) .rule ≡ c →
+pub apply-here : (F : Setting) (s : State) (x : ℕ) (c : Rule ℕ) → Here c → expansion (s .formulas) (nodeAt (s .nodes) x .formula) .rule ≡ c →
     apply F s x ≡ applyHere s x (expansion (s .formulas) (nodeAt (s .nodes) x .formula) .made) (chains c)
 unfolding apply
 apply-here F s x c h d = let more = expansion (s .formulas) (nodeAt (s .nodes) x .formula) .made in ap (applyRule F s x more) d ∙ rule-here F s x more c h
 
 -- what such a rule asks is met by a chain of it
-written-met : (F : Flags) (s : State) (l x w : ℕ) (form : ℕ → Form) (c : Rule ℕ) → Here c → (ds : List ℕ) → Pick (chains c) ds → Each (λ g. On (s .formulas) (s .nodes) l w (form g)) ds → Met F s l x w (writtenRule form c)
+written-met : (F : Setting) (s : State) (l x w : ℕ) (form : ℕ → Form) (c : Rule ℕ) → Here c → (ds : List ℕ) → Pick (chains c) ds → Each (λ g. On (s .formulas) (s .nodes) l w (form g)) ds → Met F s l x w (writtenRule form c)
 unfolding writtenRule
 written-met F s l x w form nothing h ds p q = tt
 written-met F s l x w form (down fs) h ds p q = each-of-map (On (s .formulas) (s .nodes) l w) form fs (subst (Each (λ g. On (s .formulas) (s .nodes) l w (form g))) (middle-pick fs ds p) q)
@@ -92,7 +92,7 @@ here-worlds s x more fs Q xs q =
     )
 
 -- ---- the step
-module _ {F : Flags} {k : ℕ} {s : State} {p : Popped} (h : Stepping F k s p) (c : Rule ℕ) (here : Here c) (d : expansion (s .formulas) (nodeAt (s .nodes) (p .node) .formula) .rule ≡ c) where
+module _ {F : Setting} {k : ℕ} {s : State} {p : Popped} (h : Stepping F k s p) (c : Rule ℕ) (here : Here c) (d : expansion (s .formulas) (nodeAt (s .nodes) (p .node) .formula) .rule ≡ c) where
   abbrev x : ℕ
   x = p .node
 

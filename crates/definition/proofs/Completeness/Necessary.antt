@@ -9,7 +9,7 @@ use native.Mathlib.Omega.{arith}
 use lib.ListN.{length, length-map}
 use Rattle.definition.specs.Lists.{Each, elem, filter, upFrom, below, empty}
 use Rattle.definition.specs.Formula.{formAt}
-use Rattle.definition.specs.Flags.{Flags}
+use Rattle.definition.specs.Setting.{Setting}
 use Rattle.definition.specs.Graph.{Graph, edge, initializeGraphIfNeeded, reached}
 use Rattle.definition.specs.Tree.{Node, nodeAt, isLeaf, leaves, path, newNode}
 use Rattle.definition.specs.Rules.{Rule, asNecessary, expansion, writtenRule}
@@ -144,7 +144,7 @@ unfolding leavesOf
 among-leaves t r n spawned l b on = among-filter _ l (leaves t) (spawned l b ∙ on) (leaf-listed t r l b)
 
 -- ---- a gift on the path of a leaf
-module _ {F : Flags} {k : ℕ} {s : State} {p : Popped} (h : Stepping F k s p) {l : ℕ} (n : Next F s p l) (r : LogicRuleResult) (is : apply F s (p .node) ≡ r) where
+module _ {F : Setting} {k : ℕ} {s : State} {p : Popped} (h : Stepping F k s p) {l : ℕ} (n : Next F s p l) (r : LogicRuleResult) (is : apply F s (p .node) ≡ r) where
   -- a chain that has the node m is shown, if its target is on the path
   pub chain-shown : (a : Targeted) → Among a (r .subtrees) → elem (a .target) (path (s .nodes) (n .from)) ≡ true → (cs : List ℕ) → a .subtree ≡ withMiddle cs → (m : Node) → Some (λ c. nodeAt (s .nodes ++ r .nodes) c ≡ m) cs →
       Shows (appended F s p .nodes) (path (appended F s p .nodes) l) (label m)
@@ -166,7 +166,7 @@ module _ {F : Flags} {k : ℕ} {s : State} {p : Popped} (h : Stepping F k s p) {
       (gift-has (s .nodes ++ r .nodes) (s .nodes) f m worlds (a .0) (n .from) (a .2) v i o))
 
 -- ---- the step
-module _ {F : Flags} {k : ℕ} {s : State} {p : Popped} (h : Stepping F k s p) (c : ℕ) (d : expansion (s .formulas) (nodeAt (s .nodes) (p .node) .formula) .rule ≡ asNecessary c) where
+module _ {F : Setting} {k : ℕ} {s : State} {p : Popped} (h : Stepping F k s p) (c : ℕ) (d : expansion (s .formulas) (nodeAt (s .nodes) (p .node) .formula) .rule ≡ asNecessary c) where
   abbrev t : List Node
   t = s .nodes
 

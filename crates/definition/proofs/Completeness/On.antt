@@ -11,7 +11,7 @@ use lib.ListN.{length}
 use Rattle.definition.specs.Lists.{any, elem}
 use Rattle.definition.specs.Records.{Rec, isNobody}
 use Rattle.definition.specs.Formula.{Form, formAt}
-use Rattle.definition.specs.Flags.{Flags, partialEquivalence}
+use Rattle.definition.specs.Setting.{Setting, partialEquivalence}
 use Rattle.definition.specs.Tree.{Node, nodeAt, path}
 use Rattle.definition.specs.Modality.{Fork, forkedOn, occurs}
 use Rattle.definition.specs.Run.{State}
@@ -65,17 +65,17 @@ pub elem-occurs : (t : List Node) (xs : List ℕ) (x : ℕ) → elem x xs ≡ tr
 elem-occurs t xs x e = some-occurs t none xs _ (among-some (λ z. nodeAt t z .world ≡ nodeAt t x .world) x xs (elem-among x xs e) refl)
 
 -- ---- paths whose model has edges
-pub keeps-cases : (F : Flags) (t : List Node) (xs : List ℕ) → keepsEdges F t xs ≡ true → (partialEquivalence F ≡ false) ⊎ ((b : ℕ) × (b ≢ 0) × (occurs t none xs b ≡ true))
+pub keeps-cases : (F : Setting) (t : List Node) (xs : List ℕ) → keepsEdges F t xs ≡ true → (partialEquivalence F ≡ false) ⊎ ((b : ℕ) × (b ≢ 0) × (occurs t none xs b ≡ true))
 unfolding keepsEdges
 keeps-cases F t xs e =
     ⊎-map (not-true _) (λ q.
     let (x, i, z) = some-among xs (any-some _ xs q) in
     (nodeAt t x .world, eqb-false _ 0 (not-true _ z), elem-occurs t xs x (among-elem x xs i))) (or-cases _ _ e)
 
-pub keeps-of : (F : Flags) (t : List Node) (xs : List ℕ) → (partialEquivalence F ≡ false) ⊎ ((b : ℕ) × (b ≢ 0) × (occurs t none xs b ≡ true)) → keepsEdges F t xs ≡ true
+pub keeps-of : (F : Setting) (t : List Node) (xs : List ℕ) → (partialEquivalence F ≡ false) ⊎ ((b : ℕ) × (b ≢ 0) × (occurs t none xs b ≡ true)) → keepsEdges F t xs ≡ true
 unfolding keepsEdges
 keeps-of F t xs (inl e) = rw e
 keeps-of F t xs (inr (b, ne, o)) = or-true (not (partialEquivalence F)) (some-any _ xs (some-map (λ z (e : nodeAt t z .world ≡ b). ap not (ne-eqb (nodeAt t z .world) 0 (λ d. ne (sym e ∙ d)))) xs (occurs-some t xs b o)))
 
-pub keeps-like : (F : Flags) (t u : List Node) (xs ys : List ℕ) → ((b : ℕ) → occurs t none xs b ≡ true → occurs u none ys b ≡ true) → keepsEdges F t xs ≡ true → keepsEdges F u ys ≡ true
+pub keeps-like : (F : Setting) (t u : List Node) (xs ys : List ℕ) → ((b : ℕ) → occurs t none xs b ≡ true → occurs u none ys b ≡ true) → keepsEdges F t xs ≡ true → keepsEdges F u ys ≡ true
 keeps-like F t u xs ys f e = keeps-of F u ys (⊎-map (λ q. q) (λ (b, ne, o). (b, ne, f b o)) (keeps-cases F t xs e))

@@ -12,7 +12,7 @@ use Rattle.definition.specs.Lists.{Each}
 use Rattle.definition.specs.Records.{Rec, nobody, isNobody, decode, marks}
 use Rattle.definition.specs.Checks.{Lengths}
 use Rattle.definition.specs.Formula.{Form, atom, non, and, or, imply, biImply, strictImply, possible, necessary, formAt}
-use Rattle.definition.specs.Flags.{Flags, flagsOf}
+use Rattle.definition.specs.Setting.{Setting, settingOf}
 use Rattle.definition.specs.Models.{Model, truth}
 use Rattle.definition.specs.Graph.{emptyGraph}
 use Rattle.definition.specs.Tree.{Node, newNode, nodeAt, leaves}
@@ -107,7 +107,7 @@ record PlainLabel (rs : List Rec) (a : Label) : Type 0 where
 abbrev AllPlain : State → Type 0
 AllPlain s = Every (PlainLabel (s .formulas)) (s .nodes) × (s .graph .worlds ≡ 0)
 
-module _ (F : Flags) (k : ℕ) (s : State) (p : Popped) (fit : Fit F k s) (a : AllPlain s) (e : stops s ≡ false) (known : p .node < length (s .nodes)) where
+module _ (F : Setting) (k : ℕ) (s : State) (p : Popped) (fit : Fit F k s) (a : AllPlain s) (e : stops F s ≡ false) (known : p .node < length (s .nodes)) where
   abbrev x : ℕ
   x = p .node
 
@@ -156,7 +156,7 @@ module _ (F : Flags) (k : ℕ) (s : State) (p : Popped) (fit : Fit F k s) (a : A
         ap (λ (r : LogicRuleResult). r .graph .worlds) is ∙ a .1,
       )
 
-plain-start : (F : Flags) (rs : List Rec) → length rs ≤ mostRecords → PlainBranch rs → AllPlain (start F rs)
+plain-start : (F : Setting) (rs : List Rec) → length rs ≤ mostRecords → PlainBranch rs → AllPlain (start F rs)
 unfolding start begun branchNodes emptyGraph checkedForContradictions
 plain-start F rs small h =
     let first = rooted-every (PlainLabel rs) (branchNodes rs) (each-of-map (λ (n : Node). PlainLabel rs (label n)) (λ f. newNode nobody f 0) (marks rs)
@@ -166,12 +166,12 @@ plain-start F rs small h =
     (λ y l. subst (PlainLabel rs) (sym (mark-keeps label (λ j n. refl) found (begun rs .nodes) y)) (first y (omega (arith, length-marks found (begun rs .nodes)))), refl)
 
 -- so no world is made
-plain-worlds : (branch : List ℕ) (flags : ℕ) (lent : Lengths) → Accepted branch flags lent → ChecksContradictions (flagsOf flags) → PlainBranch (decode branch) → late (final (flagsOf flags) (decode branch)) ≡ false
+plain-worlds : (branch : List ℕ) (flags : ℕ) (lent : Lengths) → Accepted branch flags lent → ChecksContradictions (settingOf flags) → PlainBranch (decode branch) → late (settingOf flags) (final (settingOf flags) (decode branch)) ≡ false
 unfolding final late
 plain-worlds branch flags lent a skip plain = rw none refl
   where
-    F : Flags
-    F = flagsOf flags
+    F : Setting
+    F = settingOf flags
 
     k : ℕ
     k = length (decode branch)
@@ -179,10 +179,10 @@ plain-worlds branch flags lent a skip plain = rw none refl
     Kept : State → Type 0
     Kept s = Fit F k s × AllPlain s
 
-    one : (s : State) → stops s ≡ false → Kept s → Kept (step F s)
+    one : (s : State) → stops F s ≡ false → Kept s → Kept (step F s)
     one s e h =
         let q = due F s skip e in
-        let known = taken-each (λ x. x < length (s .nodes)) (s .waiting) (q .0) (pop-taken (s .formulas) (s .nodes) (s .waiting) (q .0) (q .1)) (h .0 .bounded .known) .0 in
+        let known = taken-each (λ x. x < length (s .nodes)) (s .waiting) (q .0) (pop-taken F (s .formulas) (s .nodes) (s .waiting) (q .0) (q .1)) (h .0 .bounded .known) .0 in
         (fit-step F k s e (h .0), subst AllPlain (sym (q .2)) (plain-step F k s (q .0) (h .0) (h .1) e known))
 
     none : run (suc mostIdentifiers) F (start F (decode branch)) .graph .worlds ≡ 0
@@ -194,17 +194,17 @@ Unproved (refusal number place) = ⊥
 Unproved (verdict v) = v .proved ≡ false
 
 -- one that is not proved has an assignment
-pub has-assignment : (branch : List ℕ) (flags : ℕ) (lent : Trays) (v : Verdict) → answer branch flags lent ≡ verdict v → ChecksContradictions (flagsOf flags) → PlainBranch (decode branch) →
+pub has-assignment : (branch : List ℕ) (flags : ℕ) (lent : Trays) (v : Verdict) → answer branch flags lent ≡ verdict v → ChecksContradictions (settingOf flags) → PlainBranch (decode branch) →
     v .proved ≡ false → (a : ℕ → Bool) × Satisfies a (decode branch)
 unfolding answerOf
 has-assignment branch flags lent v h checks plain unproved =
     let rs = decode branch in
     let (a, room, open-end) = answered Unproved (λ n i q. q) branch flags lent (subst Unproved (sym h) unproved) in
     let (l, k) = run-complete branch flags (lengthsOf lent) a checks room open-end (plain-worlds branch flags (lengthsOf lent) a checks plain) in
-    let M = readOff (flagsOf flags) (final (flagsOf flags) rs) l in
+    let M = readOff (settingOf flags) (final (settingOf flags) rs) l in
     (M .value 0, each-both (λ f (q : Plain (formAt rs f)) (t : truth M (formAt rs f) 0 ≡ true). plain-truth M 0 (formAt rs f) q ∙ t) (marks rs) plain (k .satisfied))
 
-pub decides : (branch : List ℕ) (flags : ℕ) (lent : Trays) (v : Verdict) → answer branch flags lent ≡ verdict v → ChecksContradictions (flagsOf flags) → PlainBranch (decode branch) →
+pub decides : (branch : List ℕ) (flags : ℕ) (lent : Trays) (v : Verdict) → answer branch flags lent ≡ verdict v → ChecksContradictions (settingOf flags) → PlainBranch (decode branch) →
     ((v .proved ≡ true) ↔ ((a : ℕ → Bool) → Satisfies a (decode branch) → ⊥))
 decides branch flags lent v h checks plain = (
   λ proved a sat. demand-3 branch flags lent (subst Proved (sym h) proved) (assigned a) (record { reflexive = λ q u l. refl; symmetric = λ q u v l m e. refl; transitive = λ q u v w l m n d e. refl }) 0 (omega arith) (λ q. (0, omega arith, refl)) sat,

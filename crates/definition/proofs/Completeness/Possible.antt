@@ -10,7 +10,7 @@ use lib.ListN.{length}
 use Rattle.definition.specs.Lists.{Each, elem}
 use Rattle.definition.specs.Records.{nobody}
 use Rattle.definition.specs.Formula.{Form, formAt}
-use Rattle.definition.specs.Flags.{Flags}
+use Rattle.definition.specs.Setting.{Setting}
 use Rattle.definition.specs.Graph.{Graph, edge, initializeGraphIfNeeded, fork}
 use Rattle.definition.specs.Tree.{Node, newNode, nodeAt, path}
 use Rattle.definition.specs.Rules.{Rule, asPossible, expansion, writtenRule}
@@ -44,7 +44,7 @@ stored-visiting : (s : State) (x w : ℕ) (q : Form) (t : List Node) (g : Graph)
 unfolding visiting
 stored-visiting s x w q t g m z = record { spawner = z .spawner; world = z .world; known = z .known; form = z .form }
 
-module _ {F : Flags} {k : ℕ} {s : State} {p : Popped} (h : Stepping F k s p) (c : ℕ) (d : expansion (s .formulas) (nodeAt (s .nodes) (p .node) .formula) .rule ≡ asPossible c)
+module _ {F : Setting} {k : ℕ} {s : State} {p : Popped} (h : Stepping F k s p) (c : ℕ) (d : expansion (s .formulas) (nodeAt (s .nodes) (p .node) .formula) .rule ≡ asPossible c)
     (y : Saturated F s) (rooted : Each (Rooted (s .nodes)) (s .necessities)) (ground : (l : ℕ) → OpenLeaf s l → Occurs s l 0) where
   abbrev t : List Node
   t = s .nodes

@@ -8,7 +8,7 @@ use lib.Dec.{ltb}
 use borrow.Author.Tests.{ltb-true, ltb-false}
 use lib.ListN.{length, length-append}
 use Rattle.definition.specs.Lists.{filter, below}
-use Rattle.definition.specs.Flags.{Flags}
+use Rattle.definition.specs.Setting.{Setting}
 use Rattle.definition.specs.Tree.{Node, leaves}
 use Rattle.definition.specs.Subtree.{Subtree, Targeted, flat, turned, numbered, appendSubtreeOnLeaf, pushSubtree, appendCopies, appendOn, takes, appendSubtree, appendLogicRuleResult}
 use Rattle.definition.specs.Queue.{Popped}
@@ -86,7 +86,7 @@ result-waits (a ∷ rs) t q lo hi i z h =
     ])
 
 -- after a step every new node waits, and so do the others
-pub appended-waits : (F : Flags) (s : State) (p : Popped) (z : ℕ) → Waits (p .others) z ⊎ ((length (s .nodes) ≤ z) × (z < length (appended F s p .nodes))) → Waits (appended F s p .waiting) z
+pub appended-waits : (F : Setting) (s : State) (p : Popped) (z : ℕ) → Waits (p .others) z ⊎ ((length (s .nodes) ≤ z) × (z < length (appended F s p .nodes))) → Waits (appended F s p .waiting) z
 unfolding appended
 appended-waits F s p z h =
     let r = apply F s (p .node) in let n = length (s .nodes) in let m = n + length (r .nodes) in

@@ -12,7 +12,7 @@ use Rattle.definition.specs.Limits.{mostRecords}
 use Rattle.definition.specs.Lists.{Each, empty, upFrom, below}
 use Rattle.definition.specs.Records.{Rec, nobody, marks}
 use Rattle.definition.specs.Formula.{formAt}
-use Rattle.definition.specs.Flags.{Flags}
+use Rattle.definition.specs.Setting.{Setting}
 use Rattle.definition.specs.Graph.{emptyGraph}
 use Rattle.definition.specs.Tree.{Root, Middle, Node, newNode, nodeAt, placedBelow, isLeaf, leaves, path, setChild}
 use Rattle.definition.specs.Rules.{Rule, nothing, down, split, asPossible, asNecessary, expansion}
@@ -98,7 +98,7 @@ branch-on rs (f ∷ fs) small known few l b =
     among-some (λ z. Says rs 0 (formAt rs g) (label (nodeAt (rooted ns) z))) z (path (rooted ns) l) (branch-path (make f) (map make fs) (map-new make (λ g. refl) fs) few l b z (omega (arith, length-map fs make)))
     (subst (Says rs 0 (formAt rs g)) (sym (branch-label (make f) (map make fs) z ∙ ap label e)) (record { world = refl; known = low; named = ne-eqb g nobody (omega arith); form = refl })))
 
-module _ (F : Flags) (rs : List Rec) where
+module _ (F : Setting) (rs : List Rec) where
   len : length (start F rs .nodes) ≡ length (branchNodes rs)
   unfolding start begun
   len = checked-length F (begun rs) ∙ length-rooted (branchNodes rs)
@@ -128,7 +128,7 @@ module _ (F : Flags) (rs : List Rec) where
       waits x h = some-reverse (λ y. y ≡ x) (below (length (branchNodes rs))) (among-from (length (branchNodes rs)) 0 x (omega arith) (omega (arith, len)))
 
 -- ---- the run
-pub record Good (F : Flags) (rs₀ : List Rec) (s : State) : Type 0 where
+pub record Good (F : Setting) (rs₀ : List Rec) (s : State) : Type 0 where
   pub fit : Fit F (length rs₀) s
   pub watch : Watch F s
   pub rooted : AllRooted s
@@ -136,29 +136,29 @@ pub record Good (F : Flags) (rs₀ : List Rec) (s : State) : Type 0 where
   pub saturated : Saturated F s
 
 -- a step that is due takes a node that waits
-pub due : (F : Flags) (s : State) → F .skip ≡ false → stops s ≡ false → (p : Popped) × (pop (s .formulas) (s .nodes) (s .waiting) ≡ some p) × (step F s ≡ after F s p)
+pub due : (F : Setting) (s : State) → F .skip ≡ false → stops F s ≡ false → (p : Popped) × (pop F (s .formulas) (s .nodes) (s .waiting) ≡ some p) × (step F s ≡ after F s p)
 unfolding stops ended step stepBy checkForContradictions
-due F s skip e = go (pop (s .formulas) (s .nodes) (s .waiting)) refl
+due F s skip e = go (pop F (s .formulas) (s .nodes) (s .waiting)) refl
   where
-    none-left : (q : List ℕ) → empty q ≡ false → pop (s .formulas) (s .nodes) q ≡ none → ⊥
+    none-left : (q : List ℕ) → empty q ≡ false → pop F (s .formulas) (s .nodes) q ≡ none → ⊥
     none-left [] b d = true-false b
-    none-left (x ∷ xs) b d = pop-some (s .formulas) (s .nodes) x xs d
+    none-left (x ∷ xs) b d = pop-some F (s .formulas) (s .nodes) x xs d
 
-    go : (o : Option Popped) → pop (s .formulas) (s .nodes) (s .waiting) ≡ o → (p : Popped) × (pop (s .formulas) (s .nodes) (s .waiting) ≡ some p) × (step F s ≡ after F s p)
-    go none d = absurd (none-left (s .waiting) (or-left (empty (s .waiting)) _ (or-right (s .proved) _ (or-left (ended s) _ e))) d)
+    go : (o : Option Popped) → pop F (s .formulas) (s .nodes) (s .waiting) ≡ o → (p : Popped) × (pop F (s .formulas) (s .nodes) (s .waiting) ≡ some p) × (step F s ≡ after F s p)
+    go none d = absurd (none-left (s .waiting) (or-left (empty (s .waiting)) _ (or-right (s .proved) _ (or-left (ended F s) _ e))) d)
     go (some p) d = (p, d, rw (d, skip))
 
 -- what every step keeps, the run keeps
-pub run-keeps : (P : State → Type 0) (F : Flags) → ((s : State) → stops s ≡ false → P s → P (step F s)) → (n : ℕ) (s : State) → P s → P (run n F s)
+pub run-keeps : (P : State → Type 0) (F : Setting) → ((s : State) → stops F s ≡ false → P s → P (step F s)) → (n : ℕ) (s : State) → P s → P (run n F s)
 unfolding steps
 run-keeps P F f zero s h = h
-run-keeps P F f (suc n) s h = go (stops s) refl (run-keeps P F f n (step F s))
+run-keeps P F f (suc n) s h = go (stops F s) refl (run-keeps P F f n (step F s))
   where
-    go : (b : Bool) → stops s ≡ b → (P (step F s) → P (run n F (step F s))) → P (cond b s (run n F (step F s)))
+    go : (b : Bool) → stops F s ≡ b → (P (step F s) → P (run n F (step F s))) → P (cond b s (run n F (step F s)))
     go true e k = h
     go false e k = k (f s e h)
 
-module _ (F : Flags) (rs₀ : List Rec) (skip : F .skip ≡ false) (marked : empty (marks rs₀) ≡ false) where
+module _ (F : Setting) (rs₀ : List Rec) (skip : F .skip ≡ false) (marked : empty (marks rs₀) ≡ false) where
   -- world 0 occurs on every open path
   ground : (s : State) → Roots rs₀ s → (l : ℕ) → OpenLeaf s l → Occurs s l 0
   ground s r l o = go (marks rs₀) marked (r l o)
@@ -167,8 +167,8 @@ module _ (F : Flags) (rs₀ : List Rec) (skip : F .skip ≡ false) (marked : emp
       go [] e h = true-false e
       go (f ∷ fs) e h = on-occurs (s .formulas) (s .nodes) l 0 (formAt rs₀ f) (h .0)
 
-  module _ (s : State) (g : Good F rs₀ s) (e : stops s ≡ false) (few : length (step F s .nodes) ≤ nobody) where
-    stepping : (p : Popped) → pop (s .formulas) (s .nodes) (s .waiting) ≡ some p → step F s ≡ after F s p → Stepping F (length rs₀) s p
+  module _ (s : State) (g : Good F rs₀ s) (e : stops F s ≡ false) (few : length (step F s .nodes) ≤ nobody) where
+    stepping : (p : Popped) → pop F (s .formulas) (s .nodes) (s .waiting) ≡ some p → step F s ≡ after F s p → Stepping F (length rs₀) s p
     unfolding checkedForContradictions
     stepping p d is =
         record {
@@ -176,8 +176,8 @@ module _ (F : Flags) (rs₀ : List Rec) (skip : F .skip ≡ false) (marked : emp
           going = e;
           few = omega (arith, ap (λ (z : State). length (z .nodes)) is, length-marks (pairs (appended F s p .formulas) (appended F s p .nodes) (leaves (appended F s p .nodes))) (appended F s p .nodes));
           watched = g .watch skip (omega (arith, step-grows F s));
-          known = taken-each (λ x. x < length (s .nodes)) (s .waiting) p (pop-taken (s .formulas) (s .nodes) (s .waiting) p d) (g .fit .bounded .known) .0;
-          taken = pop-taken (s .formulas) (s .nodes) (s .waiting) p d;
+          known = taken-each (λ x. x < length (s .nodes)) (s .waiting) p (pop-taken F (s .formulas) (s .nodes) (s .waiting) p d) (g .fit .bounded .known) .0;
+          taken = pop-taken F (s .formulas) (s .nodes) (s .waiting) p d;
         }
 
     by-rule : (p : Popped) → Stepping F (length rs₀) s p → (c : Rule ℕ) → expansion (s .formulas) (nodeAt (s .nodes) (p .node) .formula) .rule ≡ c → Saturated F (after F s p)

@@ -12,7 +12,7 @@ use lib.ListN.{length}
 use Rattle.definition.specs.Lists.{Each, elem}
 use Rattle.definition.specs.Records.{isNobody}
 use Rattle.definition.specs.Formula.{Form, formAt}
-use Rattle.definition.specs.Flags.{Flags}
+use Rattle.definition.specs.Setting.{Setting}
 use Rattle.definition.specs.Graph.{Graph, edge, initializeGraphIfNeeded}
 use Rattle.definition.specs.Tree.{nodeAt, path, Node}
 use Rattle.definition.specs.Rules.{Rule, nothing, down, split, asPossible, asNecessary, priest, expansion, writtenRule}
@@ -29,7 +29,7 @@ use Rattle.definition.proofs.Completeness.Queued.{Waits, taken-or, appe
 use Rattle.definition.proofs.Completeness.Steps.{Stepping, after, Next, next, form-next, known-next, rule-form, named-known, after-length, old-label, old-inside, old-on, on-next}
 
 -- the graph, begun: where no world is there yet, world 0 alone
-abbrev pub begun : Flags → State → Graph
+abbrev pub begun : Setting → State → Graph
 begun F s = initializeGraphIfNeeded F (s .graph)
 
 -- the world v occurs on the path of l
@@ -44,7 +44,7 @@ pub record Stored (s : State) (x w : ℕ) (p : Form) (n : Necessity) : Type 0 wh
   pub form : formAt (s .formulas) (n .formula) ≡ p
 
 -- what a rule of the node x at the world w asks of the path of l; a world that a fork made is not world 0
-abbrev pub Met : Flags → State → ℕ → ℕ → ℕ → Rule Form → Type 0
+abbrev pub Met : Setting → State → ℕ → ℕ → ℕ → Rule Form → Type 0
 Met F s l x w nothing = Unit {0}
 Met F s l x w (down ps) = Each (On (s .formulas) (s .nodes) l w) ps
 Met F s l x w (split ps qs) = Each (On (s .formulas) (s .nodes) l w) ps ⊎ Each (On (s .formulas) (s .nodes) l w) qs
@@ -52,29 +52,29 @@ Met F s l x w (asPossible p) = (v : ℕ) × (v ≢ 0) × (edge (begun F s) w v �
 Met F s l x w (asNecessary p) = Some (Stored s x w p) (s .necessities)
 
 -- the same of the rule of what a label says, unless it is a comment's
-abbrev pub Asks : Flags → State → ℕ → ℕ → Label → Type 0
+abbrev pub Asks : Setting → State → ℕ → ℕ → Label → Type 0
 Asks F s l x a = isNobody (a .formula) ≡ false → Met F s l x (a .world) (priest (formAt (s .formulas) (a .formula)))
 
-abbrev pub Settled : Flags → State → ℕ → Type 0
+abbrev pub Settled : Setting → State → ℕ → Type 0
 Settled F s x = (l : ℕ) → OpenLeaf s l → elem x (path (s .nodes) l) ≡ true → Asks F s l x (label (nodeAt (s .nodes) x))
 
-abbrev pub AllSettled : Flags → State → Type 0
+abbrev pub AllSettled : Setting → State → Type 0
 AllSettled F s = (x : ℕ) → In (spots (s .nodes)) x → Waits (s .waiting) x ⊎ Settled F s x
 
 -- a stored necessity, on an open path through its node: its formula is shown at every visited world, and every world that it reaches was visited
-pub record Served (F : Flags) (s : State) (n : Necessity) : Type 0 where
+pub record Served (F : Setting) (s : State) (n : Necessity) : Type 0 where
   pub world : n .world < begun F s .worlds
   pub low : Each (λ v. v < begun F s .worlds) (n .visited)
   pub given : (l v : ℕ) → OpenLeaf s l → elem (n .spawner) (path (s .nodes) l) ≡ true → Among v (n .visited) → Occurs s l v → On (s .formulas) (s .nodes) l v (formAt (s .formulas) (n .formula))
   pub reached : (l v : ℕ) → OpenLeaf s l → elem (n .spawner) (path (s .nodes) l) ≡ true → keepsEdges F (s .nodes) (path (s .nodes) l) ≡ true → edge (begun F s) (n .world) v ≡ true → Occurs s l v → Among v (n .visited)
 
 -- what every state of a run has
-pub record Saturated (F : Flags) (s : State) : Type 0 where
+pub record Saturated (F : Setting) (s : State) : Type 0 where
   pub settled : AllSettled F s
   pub frame : Frame F (begun F s)
   pub served : Each (Served F s) (s .necessities)
 
-module _ {F : Flags} {k : ℕ} {s : State} {p : Popped} (h : Stepping F k s p) where
+module _ {F : Setting} {k : ℕ} {s : State} {p : Popped} (h : Stepping F k s p) where
   abbrev s′ : State
   s′ = after F s p
 

@@ -11,7 +11,7 @@ use lib.ListN.{length, length-append}
 use Rattle.definition.specs.Lists.{Each, elem}
 use Rattle.definition.specs.Records.{Rec, nobody, isNobody}
 use Rattle.definition.specs.Formula.{Form, formAt}
-use Rattle.definition.specs.Flags.{Flags}
+use Rattle.definition.specs.Setting.{Setting}
 use Rattle.definition.specs.Graph.{Graph}
 use Rattle.definition.specs.Tree.{Node, newNode, nodeAt, leaves, path, isContradictory}
 use Rattle.definition.specs.Rules.{Rule, nothing, down, split, asPossible, asNecessary, priest, expansion, writtenRule}
@@ -70,7 +70,7 @@ module _ (t : List Node) (r : Treed t) where
       (cond-both (λ (m : Made). Aimed (length t) (m .subtrees)) (isReapplied t k n) (reapplyNecessity t g (some k) next n) (record { nodes = []; subtrees = [] }) (reapply-aimed g (some k) next n) tt)
       (after-aimed ns g k (next + length (one .nodes)))
 
-rule-aimed : (F : Flags) (s : State) (x : ℕ) (more : List Rec) (c : Rule ℕ) → Treed (s .nodes) → x < length (s .nodes) → Aimed (length (s .nodes)) (applyRule F s x more c .subtrees)
+rule-aimed : (F : Setting) (s : State) (x : ℕ) (more : List Rec) (c : Rule ℕ) → Treed (s .nodes) → x < length (s .nodes) → Aimed (length (s .nodes)) (applyRule F s x more c .subtrees)
 unfolding applyRule applyHere applyPossibility applyNecessity
 rule-aimed F s x more nothing r h = (h, tt)
 rule-aimed F s x more (down fs) r h = (h, tt)
@@ -78,22 +78,22 @@ rule-aimed F s x more (split fs gs) r h = (h, tt)
 rule-aimed F s x more (asPossible f) r h = (h, after-aimed (s .nodes) r (s .necessities) _ _ _)
 rule-aimed F s x more (asNecessary f) r h = reapply-aimed (s .nodes) r _ none _ _
 
-apply-aimed : (F : Flags) (s : State) (x : ℕ) → Treed (s .nodes) → x < length (s .nodes) → Aimed (length (s .nodes)) (apply F s x .subtrees)
+apply-aimed : (F : Setting) (s : State) (x : ℕ) → Treed (s .nodes) → x < length (s .nodes) → Aimed (length (s .nodes)) (apply F s x .subtrees)
 unfolding apply
 apply-aimed F s x r h = let e = expansion (s .formulas) (nodeAt (s .nodes) x .formula) in rule-aimed F s x (e .made) (e .rule) r h
 
 -- ---- the step
 -- a state of a run that goes on, its marks right, and the node that is taken
-pub record Stepping (F : Flags) (k : ℕ) (s : State) (p : Popped) : Type 0 where
+pub record Stepping (F : Setting) (k : ℕ) (s : State) (p : Popped) : Type 0 where
   pub fit : Fit F k s
-  pub going : stops s ≡ false
+  pub going : stops F s ≡ false
   pub few : length (appended F s p .nodes) ≤ nobody
   pub watched : Watched s
   pub known : p .node < length (s .nodes)
   pub taken : Taken (s .waiting) p
 
 -- the state after the step
-abbrev pub after : Flags → State → Popped → State
+abbrev pub after : Setting → State → Popped → State
 after F s p = checkedForContradictions (appended F s p)
 
 -- what a path xs takes of a result r, and then is ys: a chain of each subtree whose target it holds
@@ -106,7 +106,7 @@ Only s r u xs z =
     (length (s .nodes) ≤ z) × Some (λ (a : Targeted). (elem (a .target) xs ≡ true) × Some (λ c. label (nodeAt u z) ≡ label (nodeAt (s .nodes ++ r .nodes) c)) (flat (a .subtree))) (r .subtrees)
 
 -- the leaf l, open after the step, goes on from one that was open
-pub record Next (F : Flags) (s : State) (p : Popped) (l : ℕ) : Type 0 where
+pub record Next (F : Setting) (s : State) (p : Popped) (l : ℕ) : Type 0 where
   pub from : ℕ
   pub was : OpenLeaf s from
   pub new : List ℕ
@@ -114,7 +114,7 @@ pub record Next (F : Flags) (s : State) (p : Popped) (l : ℕ) : Type 0 where
   pub shows : Shown s (apply F s (p .node)) (appended F s p .nodes) (path (appended F s p .nodes) l) (path (s .nodes) from)
   pub only : Each (Only s (apply F s (p .node)) (appended F s p .nodes) (path (s .nodes) from)) new
 
-module _ {F : Flags} {k : ℕ} {s : State} {p : Popped} (h : Stepping F k s p) where
+module _ {F : Setting} {k : ℕ} {s : State} {p : Popped} (h : Stepping F k s p) where
   abbrev t : List Node
   t = s .nodes
 

@@ -12,7 +12,7 @@ use Rattle.definition.specs.Lists.{Each, all, find, elem, empty}
 use Rattle.definition.specs.Records.{Rec, Unknown, decode, marks, made, numberOf, recAt}
 use Rattle.definition.specs.Checks.{Lengths}
 use Rattle.definition.specs.Formula.{Form, formAt}
-use Rattle.definition.specs.Flags.{Flags, flagsOf, partialEquivalence}
+use Rattle.definition.specs.Setting.{Setting, settingOf, partialEquivalence}
 use Rattle.definition.specs.Models.{Model, Has, truth}
 use Rattle.definition.specs.Graph.{edge}
 use Rattle.definition.specs.Tree.{Node, nodeAt, leaves, path}
@@ -55,7 +55,7 @@ beq-eq true false e = sym e
 beq-eq false true e = e
 beq-eq false false e = refl
 
-module _ (F : Flags) (s : State) (l : ℕ) where
+module _ (F : Setting) (s : State) (l : ℕ) where
   abbrev M : Model
   M = readOff F s l
 
@@ -89,7 +89,7 @@ module _ (F : Flags) (s : State) (l : ℕ) where
       loops true true q = ap not q
 
 -- ---- the end of the run
-module _ (F : Flags) (rs₀ : List Rec) (s : State) (g : Good F rs₀ s) (small : length (s .nodes) ≤ mostIdentifiers) (skip : F .skip ≡ false) (kinds : Each (λ (r : Rec). numberOf (r .kind) ≤ 8) (s .formulas)) (idle : empty (s .waiting) ≡ true) where
+module _ (F : Setting) (rs₀ : List Rec) (s : State) (g : Good F rs₀ s) (small : length (s .nodes) ≤ mostIdentifiers) (skip : F .skip ≡ false) (kinds : Each (λ (r : Rec). numberOf (r .kind) ≤ 8) (s .formulas)) (idle : empty (s .waiting) ≡ true) where
   abbrev t : List Node
   t = s .nodes
 
@@ -169,11 +169,11 @@ unfolding recAt
 accepted-kinds branch flags lent a = each-of (λ (r : Rec). numberOf (r .kind) ≤ 8) (made Unknown 0 0) (decode branch) (λ i h. a .records i h .kind)
 
 -- nothing waits at its end, unless it is proved, late or full
-nothing-waits : (F : Flags) (rs : List Rec) → final F rs .proved ≡ false → late (final F rs) ≡ false → full (final F rs) ≡ false → empty (final F rs .waiting) ≡ true
+nothing-waits : (F : Setting) (rs : List Rec) → final F rs .proved ≡ false → late F (final F rs) ≡ false → full (final F rs) ≡ false → empty (final F rs .waiting) ≡ true
 unfolding stops ended late
 nothing-waits F rs unproved timely room =
     let z = final F rs in
-    elim (or-cases (ended z) (full z) (final-stops F rs)) [
+    elim (or-cases (ended F z) (full z) (final-stops F rs)) [
       | inr q ↦ true-false (sym q ∙ room)
       | inl q ↦ elim (or-cases (z .proved) _ q) [
         | inl d ↦ true-false (sym d ∙ unproved)
@@ -181,11 +181,11 @@ nothing-waits F rs unproved timely room =
       ]
     ]
 
-pub run-complete : (branch : List ℕ) (flags : ℕ) (lent : Lengths) → let z = final (flagsOf flags) (decode branch) in
-    Accepted branch flags lent → flagsOf flags .skip ≡ false → full z ≡ false → z .proved ≡ false → late z ≡ false → HasCountermodel (flagsOf flags) (decode branch)
+pub run-complete : (branch : List ℕ) (flags : ℕ) (lent : Lengths) → let z = final (settingOf flags) (decode branch) in
+    Accepted branch flags lent → settingOf flags .skip ≡ false → full z ≡ false → z .proved ≡ false → late (settingOf flags) z ≡ false → HasCountermodel (settingOf flags) (decode branch)
 unfolding final
 run-complete branch flags lent a skip room unproved timely =
-    let F = flagsOf flags in
+    let F = settingOf flags in
     let rs = decode branch in
     let z = final F rs in
     let few = not-full z room in
@@ -198,14 +198,14 @@ run-complete branch flags lent a skip room unproved timely =
 -- ---- the call
 -- an answer that is no refusal comes of a run that ended
 pub answered : (P : Answer → Type 0) → ((number place : ℕ) → P (refusal number place) → ⊥) → (branch : List ℕ) (flags : ℕ) (lent : Trays) → P (answer branch flags lent) →
-    let z = final (flagsOf flags) (decode branch) in Accepted branch flags (lengthsOf lent) × (full z ≡ false) × P (answerOf (Ended z))
+    let z = final (settingOf flags) (decode branch) in Accepted branch flags (lengthsOf lent) × (full z ≡ false) × P (answerOf (settingOf flags) (Ended z))
 unfolding answer answerOf
 answered P never branch flags lent h = go (outcome branch flags (lengthsOf lent)) refl h
   where
-    go : (o : Outcome) → outcome branch flags (lengthsOf lent) ≡ o → P (answerOf o) → let z = final (flagsOf flags) (decode branch) in Accepted branch flags (lengthsOf lent) × (full z ≡ false) × P (answerOf (Ended z))
+    go : (o : Outcome) → outcome branch flags (lengthsOf lent) ≡ o → P (answerOf (settingOf flags) o) → let z = final (settingOf flags) (decode branch) in Accepted branch flags (lengthsOf lent) × (full z ≡ false) × P (answerOf (settingOf flags) (Ended z))
     go (Refused c) e q = absurd (never (c .number) (c .place) q)
     go Full e q = absurd (never 12 0 q)
-    go (Ended s) e q = let k = ended-of branch flags (lengthsOf lent) s e in (k .0, k .1, subst (λ (s : State). P (answerOf (Ended s))) (sym (k .2)) q)
+    go (Ended s) e q = let k = ended-of branch flags (lengthsOf lent) s e in (k .0, k .1, subst (λ (s : State). P (answerOf (settingOf flags) (Ended s))) (sym (k .2)) q)
 
 pub complete : Complete
 unfolding answerOf
@@ -220,6 +220,6 @@ exact branch flags lent checks total timely = (
   demand-3 branch flags lent,
   λ never. elim (in-time (answer branch flags lent) timely) [
     | inl q ↦ q
-    | inr q ↦ let (l, k) = complete branch flags lent checks q in absurd (never (readOff (flagsOf flags) (final (flagsOf flags) (decode branch)) l) (k .has) 0 (k .worldZero) (λ e. true-false (sym e ∙ total)) (k .satisfied))
+    | inr q ↦ let (l, k) = complete branch flags lent checks q in absurd (never (readOff (settingOf flags) (final (settingOf flags) (decode branch)) l) (k .has) 0 (k .worldZero) (λ e. true-false (sym e ∙ total)) (k .satisfied))
   ],
 )

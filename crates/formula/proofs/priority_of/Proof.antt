@@ -16,7 +16,7 @@ priority-by-requires : tie.Need-priority-by-requires
 priority-by-requires c κs = search needs
 
 returns : tie.Need-returns
-returns c = λ rs p h. class-of _ _ _ _ _ p h (c .before .before .before .formula-kind .ensures rs p h) (c .before .before .left-at .ensures rs p h)
+returns c = λ F rs p h. class-of F _ _ _ _ _ p h (c .before .before .before .formula-kind .ensures rs p h) (c .before .before .left-at .ensures rs p h)
     (c .before .kind-at .ensures rs p h) (c .priority-by .ensures)
 
 pub priority-of-spec : {M : Type 1} → statement M

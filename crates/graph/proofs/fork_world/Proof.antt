@@ -6,11 +6,11 @@ use Rattle.graph.proofs.fork_world.Statement.{statement}
 use Rattle.graph.proofs.fork_world.Tie as tie
 
 returns : tie.Need-returns
-returns c = (λ F g e k d. absurd (omega (arith, c .if1 .taken)), λ h. (refl, refl))
+returns c = (λ g k d. absurd (omega (arith, c .if1 .taken)), λ h. (refl, refl))
 
 returns-2 : tie.Need-returns-2
 returns-2 c = (
-  λ F g e k d. fork-made F d _ (c .before .before .before .before .before .before .forked-world .ensures) k (c .before .before .add-vertex-if .ensures) (λ h p. c .add-missing-graph-vertices .ensures F h e p),
+  λ g k d. fork-made _ d _ (c .before .before .before .before .before .before .forked-world .ensures) k (c .before .before .add-vertex-if .ensures) (c .add-missing-graph-vertices .ensures),
   λ h. absurd (omega (arith, h, c .before .before .before .before .before .before .before .if1 .left)),
 )
 

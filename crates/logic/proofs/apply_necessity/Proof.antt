@@ -13,6 +13,7 @@ use Rattle.logic.proofs.Reapply.{row-as, stands, visit-fits, visit-low,
 use Rattle.logic.proofs.Again.{blank}
 use Rattle.logic.proofs.Forked.{listing-start, before-held, leaves-low}
 use Rattle.logic.proofs.Necessary.{through-fits, through-own, necessity-after}
+use Rattle.setting.specs.Asked.{asked}
 use borrow.Author.Needs.{needs}
 use Rattle.logic.proofs.apply_necessity.Statement.{statement}
 use Rattle.logic.proofs.apply_necessity.Tie as tie
@@ -45,12 +46,13 @@ place-given-requires : tie.Need-place-given-requires
 place-given-requires c κs = search needs
 
 returns : tie.Need-returns
-returns c = λ F s recs q log b.
+returns c = λ s recs q b.
+    let F = asked (c .before .before .before .before .before .before .before .before .before .before .before .before .before .before .before .before .before .before .before .before .before .before .before .before .before .before .before .before .before .before .before .before .before .before .before .before .before .before .before .args .setting) in
     let t = s .nodes in
     let x = c .before .before .before .before .before .before .before .before .before .before .before .before .before .before .before .before .before .before .before .before .before .before .before .before .before .before .before .before .before .before .before .before .before .before .before .before .before .before .before .args .x .0 in
     let f = c .before .before .before .before .before .before .before .before .before .before .before .before .before .before .before .before .before .before .before .before .before .before .before .before .before .before .before .before .before .before .before .before .before .before .before .before .before .before .before .args .f .0 in
     let n = necessityOf s x f in
-    let drawn = c .before .before .before .before .before .before .before .before .before .before .before .before .before .before .before .before .before .before .before .before .before .before .before .before .before .before .before .before .before .before .before .before .before .before .before .before .before .initialize-graph-if-needed .ensures F (s .graph) log (b .graph) in
+    let drawn = c .before .before .before .before .before .before .before .before .before .before .before .before .before .before .before .before .before .before .before .before .before .before .before .before .before .before .before .before .before .before .before .before .before .before .before .before .before .initialize-graph-if-needed .ensures (s .graph) (b .graph) in
     let h = held-as (t ++ []) (sym (append-nil t)) (before-held b) in
     let fits : c .before .before .before .before .before .before .before .before .before .before .before .before .before .before .before .before .before .before .before .before .before .before .before .before .before .before .before .before .before .before .before .before .before .before .before .before .before .before .before .args .p .nodes ≤ mostIdentifiers = omega (arith, b .fits, b .count) in
     let z = stands t [] (b .count) h fits in

@@ -9,10 +9,10 @@ check-requires : tie.Need-check-requires
 check-requires c κs = search needs
 
 returns : tie.Need-returns
-returns c = λ F s ea ra la va oa wa ca e n new l.
+returns c = λ s ea ra la va oa wa ca n new l.
     let small = laid-fits l in
-    let k = c .check .ensures F s e (l .proved) (l .formulas) n (held small (l .count) (l .nodes)) (λ _ _. new) in
-    kept (checked-laid F s (l .formulas) (l .graph) (l .necessities) (l .waiting) (l .classes) (l .steps) (k .0) (k .1 small) small)
+    let k = c .check .ensures s (l .proved) (l .formulas) n (held small (l .count) (l .nodes)) (λ _ _. new) in
+    kept (checked-laid _ s (l .formulas) (l .graph) (l .necessities) (l .waiting) (l .classes) (l .steps) (k .0) (k .1 small) small)
 
 pub begin-spec : {M : Type 1} → statement M
 begin-spec = tie.close (tie.spec check-requires returns)

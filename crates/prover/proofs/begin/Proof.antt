@@ -23,12 +23,12 @@ begin-requires : tie.Need-begin-requires
 begin-requires c κs = search needs
 
 returns : tie.Need-returns
-returns c = λ F ea ra la va oa e small some few f t w k g n.
+returns c = λ ea ra la va oa small some few f t w k g n.
     let rs = decode _ in
     let r = c .before .before .before .before .before .before .before .before .before .before .before .before .before .before .read-records .ensures small f in
-    started rs some few F (few-records _ small) g n r (λ fits. c .before .before .before .before .before .before .before .before .before .before .before .begin-tree .ensures rs r fits t) (λ l low same. c .before .before .before .before .before .before .before .before .begin-queue .ensures rs l low same w)
-    (λ ns q fits short same l low. c .before .before .before .classify .ensures rs ns [] q r fits short same l low refl k)
-    (λ fits new laid. c .begin .ensures F (begun rs) ea ra la va oa _ _ e fits new laid)
+    started rs some few _ (few-records _ small) g n r (λ fits. c .before .before .before .before .before .before .before .before .before .before .before .begin-tree .ensures rs r fits t) (λ l low same. c .before .before .before .before .before .before .before .before .begin-queue .ensures rs l low same w)
+    (λ ns q fits short same l low. c .before .before .before .classify .ensures _ rs ns [] q r fits short same l low refl k)
+    (λ fits new laid. c .begin .ensures (begun rs) ea ra la va oa _ _ fits new laid)
 
 pub begin-spec : {M : Type 1} → statement M
 begin-spec =

@@ -25,7 +25,7 @@ same-length-3 c = search needs
 
 returns : tie.Need-returns
 unfolding said
-returns c = λ s ra la va oa wa ca k e z.
+returns c = λ F s ra la va oa wa ca k e z.
     ends-full _ k (c .before .before .before .before .before .before .before .before .before .before .before .before .if1 .taken) (c .before .before .before .before .before .before .before .before .before .before .clear .ensures .0 (z .nodes)) (c .before .before .before .before .before .before .clear2 .ensures .0 (z .formulas)) (c .before .before .clear-edges .ensures .0 (z .edges))
 
 write-nodes-requires : tie.Need-write-nodes-requires
@@ -60,7 +60,7 @@ same-length-6 c = search needs
 
 returns-2 : tie.Need-returns-2
 unfolding said
-returns-2 c = λ s ra la va oa wa ca k e z.
+returns-2 c = λ F s ra la va oa wa ca k e z.
     let l = kept-laid k (c .before .before .before .before .before .before .before .before .before .before .before .before .before .before .before .before .before .if1 .left) in
     let h = e (laid-ended l) in
     ends-laid _ l h

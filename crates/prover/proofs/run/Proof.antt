@@ -1,5 +1,4 @@
 use Rattle.arrays.proofs.Listed.{listed-none}
-use Rattle.definition.specs.Flags.{flagsOf}
 use Rattle.definition.proofs.Accepted.{accepted}
 use Rattle.formula.proofs.Recorded.{recorded-none}
 use Rattle.graph.proofs.Drawn.{drawn-none}
@@ -10,14 +9,11 @@ use borrow.Author.Needs.{needs}
 use Rattle.prover.proofs.run.Statement.{statement}
 use Rattle.prover.proofs.run.Tie as tie
 
-flag-requires : tie.Need-flag-requires
-flag-requires c κs = search needs
+setting-of-requires : tie.Need-setting-of-requires
+setting-of-requires c κs = search needs
 
 begin-requires : tie.Need-begin-requires
 begin-requires c κs = search needs
-
-logic-of-requires : tie.Need-logic-of-requires
-logic-of-requires c κs = search needs
 
 prove-requires : tie.Need-prove-requires
 prove-requires c κs = search needs
@@ -35,20 +31,17 @@ same-length-3 : tie.Need-same-length-3
 same-length-3 c = search needs
 
 returns : tie.Need-returns
-unfolding flagsOf
 returns c = λ e.
-    runs _ _ _ (accepted _ _ _ e) e (c .before .before .before .before .before .before .before .before .before .before .before .before .before .before .before .before .before .before .before .before .before .before .before .logic-of .ensures) (c .before .before .before .before .before .before .before .before .before .before .before .before .before .before .before .before .before .before .before .before .before .before .before .before .before .before .before .before .before .flag .ensures)
-    (λ small some few. c .before .before .before .before .before .before .before .before .before .before .before .before .before .before .before .before .before .before .before .before .before .before .before .before .begin .ensures _ _ _ _ _ _ (c .before .before .before .before .before .before .before .before .before .before .before .before .before .before .before .before .before .before .before .before .before .before .before .before .before .before .before .before .before .flag .ensures) small some few recorded-none held-none listed-none listed-none drawn-none stack-none)
-    (c .before .before .before .before .before .before .before .before .before .before .before .before .before .prove .ensures _ _ _)
-    (c .before .before .before .before .before .before .finish .ensures _ _ _ _ _ _ _)
+    runs _ _ _ (accepted _ _ _ e) e (c .before .before .before .before .before .before .before .before .before .before .before .before .before .before .before .before .before .before .before .before .before .before .before .before .before .before .before .before .setting-of .ensures)
+    (λ small some few. c .before .before .before .before .before .before .before .before .before .before .before .before .before .before .before .before .before .before .before .before .before .before .before .begin .ensures _ _ _ _ _ small some few recorded-none held-none listed-none listed-none drawn-none stack-none)
+    (c .before .before .before .before .before .before .before .before .before .before .before .before .before .prove .ensures _ _) (c .before .before .before .before .before .before .finish .ensures _ _ _ _ _ _ _ _)
 
 pub run-spec : {M : Type 1} → statement M
 run-spec =
     tie.close
     (tie.spec
-    flag-requires
+    setting-of-requires
     begin-requires
-    logic-of-requires
     prove-requires
     finish-requires
     same-length

@@ -7,28 +7,29 @@ use Rattle.definition.specs.Limits.{mostIdentifiers}
 use Rattle.arrays.specs.Listed.{Listed}
 use Rattle.definition.specs.Records.{Rec}
 use Rattle.definition.specs.Tree.{Node}
+use Rattle.definition.specs.Setting.{Setting}
 use Rattle.definition.specs.Queue as D
 use Rattle.queue.proofs.Taking.{fromClass, fromPlace, class-start, search-begin, search-next, search-end, search-hit, search-miss}
 use Rattle.queue.proofs.first_urgent.Statement.{statement}
 use Rattle.queue.proofs.first_urgent.Tie as tie
 
 abbrev Inv-loop : tie.InvT-loop
-Inv-loop classes n class i₀ i = (i ≤ n) × ((rs : List Rec) (ns : List Node) (q : List ℕ) → Listed (map (D.getNodePriority rs ns) q) n classes → n ≤ mostIdentifiers → fromPlace rs ns q class i ≡ D.pop rs ns q)
+Inv-loop classes n class i₀ i = (i ≤ n) × ((F : Setting) (rs : List Rec) (ns : List Node) (q : List ℕ) → Listed (map (D.getNodePriority F rs ns) q) n classes → n ≤ mostIdentifiers → fromPlace F rs ns q class i ≡ D.pop F rs ns q)
 
 abbrev μ-loop : tie.MeasureT-loop
 μ-loop classes n class i₀ i = n - i
 
 abbrev Inv-classes : tie.InvT-classes
-Inv-classes classes n class₀ class = (class ≤ 3) × ((rs : List Rec) (ns : List Node) (q : List ℕ) → Listed (map (D.getNodePriority rs ns) q) n classes → n ≤ mostIdentifiers → fromClass rs ns q class ≡ D.pop rs ns q)
+Inv-classes classes n class₀ class = (class ≤ 3) × ((F : Setting) (rs : List Rec) (ns : List Node) (q : List ℕ) → Listed (map (D.getNodePriority F rs ns) q) n classes → n ≤ mostIdentifiers → fromClass F rs ns q class ≡ D.pop F rs ns q)
 
 abbrev μ-classes : tie.MeasureT-classes
 μ-classes classes n class₀ class = 3 - class
 
 classes-holds : tie.Need-classes-holds Inv-loop μ-loop Inv-classes μ-classes
-classes-holds c = (search needs, λ rs ns q l g. class-start rs ns q)
+classes-holds c = (search needs, λ F rs ns q l g. class-start F rs ns q)
 
 loop-holds : tie.Need-loop-holds Inv-loop μ-loop Inv-classes μ-classes
-loop-holds c = (search needs, λ rs ns q l g. search-begin rs ns q l g _ (omega arith) (c .before .classes .inv .1 rs ns q l g))
+loop-holds c = (search needs, λ F rs ns q l g. search-begin F rs ns q l g _ (omega arith) (c .before .classes .inv .1 F rs ns q l g))
 
 nth-requires : tie.Need-nth-requires Inv-loop μ-loop Inv-classes μ-classes
 nth-requires c κs = search needs
@@ -40,7 +41,7 @@ loop-less : tie.Need-loop-less Inv-loop μ-loop Inv-classes μ-classes
 loop-less c = search needs
 
 loop-again : tie.Need-loop-again Inv-loop μ-loop Inv-classes μ-classes
-loop-again c = (search needs, λ rs ns q l g. search-miss rs ns q l g _ _ _ (c .before .before .loop-test .taken) (c .before .before .before .loop .inv .1 rs ns q l g) (c .before .nth .ensures .0) (c .if2 .left))
+loop-again c = (search needs, λ F rs ns q l g. search-miss F rs ns q l g _ _ _ (c .before .before .loop-test .taken) (c .before .before .before .loop .inv .1 F rs ns q l g) (c .before .nth .ensures .0) (c .if2 .left))
 
 add-class : tie.Need-add-class Inv-loop μ-loop Inv-classes μ-classes
 add-class c = search needs
@@ -49,13 +50,13 @@ classes-less : tie.Need-classes-less Inv-loop μ-loop Inv-classes μ-classes
 classes-less c = search needs
 
 classes-again : tie.Need-classes-again Inv-loop μ-loop Inv-classes μ-classes
-classes-again c = (search needs, λ rs ns q l g. search-next rs ns q l g _ _ (c .loop-test .left) (c .before .loop .inv .1 rs ns q l g))
+classes-again c = (search needs, λ F rs ns q l g. search-next F rs ns q l g _ _ (c .loop-test .left) (c .before .loop .inv .1 F rs ns q l g))
 
 returns : tie.Need-returns Inv-loop μ-loop Inv-classes μ-classes
-returns c = λ rs ns q l g. search-end rs ns q l g _ (c .if1 .taken) (c .before .classes .inv .1 rs ns q l g)
+returns c = λ F rs ns q l g. search-end F rs ns q l g _ (c .if1 .taken) (c .before .classes .inv .1 F rs ns q l g)
 
 returns-2 : tie.Need-returns-2 Inv-loop μ-loop Inv-classes μ-classes
-returns-2 c = λ rs ns q l g. search-hit rs ns q l g _ _ _ (c .before .before .loop-test .taken) (c .before .before .before .loop .inv .1 rs ns q l g) (c .before .nth .ensures .0) (c .if2 .taken)
+returns-2 c = λ F rs ns q l g. search-hit F rs ns q l g _ _ _ (c .before .before .loop-test .taken) (c .before .before .before .loop .inv .1 F rs ns q l g) (c .before .nth .ensures .0) (c .if2 .taken)
 
 pub first-urgent-spec : {M : Type 1} → statement M
 first-urgent-spec =

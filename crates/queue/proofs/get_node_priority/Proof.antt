@@ -14,7 +14,7 @@ priority-of-requires c κs = search needs
 
 returns : tie.Need-returns
 unfolding getNodePriority
-returns c = λ rs ns p k h e. c .priority-of .ensures rs p k ∙ ap (λ (f : ℕ). priorityOf rs (formulaOf rs f)) (c .before .formula-of .ensures ns h e)
+returns c = λ F rs ns p k h e. c .priority-of .ensures F rs p k ∙ ap (λ (f : ℕ). priorityOf F rs (formulaOf rs f)) (c .before .formula-of .ensures ns h e)
 
 pub get-node-priority-spec : {M : Type 1} → statement M
 get-node-priority-spec = tie.close (tie.spec formula-of-requires priority-of-requires returns)

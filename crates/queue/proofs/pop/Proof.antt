@@ -8,7 +8,7 @@ first-urgent-requires : tie.Need-first-urgent-requires
 first-urgent-requires c κs = search needs
 
 returns : tie.Need-returns
-returns c = λ rs ns q l k g. pop-none (D.getNodePriority rs ns) q l k g _ _ (c .before .first-urgent .ensures rs ns q k g) (c .if1 .taken)
+returns c = λ F rs ns q l k g. pop-none (D.getNodePriority F rs ns) q l k g _ _ (c .before .first-urgent .ensures F rs ns q k g) (c .if1 .taken)
 
 nth-requires : tie.Need-nth-requires
 nth-requires c κs = search needs
@@ -20,9 +20,9 @@ remove-requires-2 : tie.Need-remove-requires-2
 remove-requires-2 c κs = search needs
 
 returns-2 : tie.Need-returns-2
-returns-2 c = λ rs ns q l k g.
+returns-2 c = λ F rs ns q l k g.
     let s = c .before .before .before .before .before .before .if1 .left in
-    pop-some (D.getNodePriority rs ns) q l k g _ _ (c .before .before .before .before .before .before .before .first-urgent .ensures rs ns q k g) _ _ _ _ _ s (c .before .before .before .before .nth .ensures .0 q _ l g) (c .before .before .remove .ensures .0 q l g s) (c .remove2 .ensures .0 _ k g s)
+    pop-some (D.getNodePriority F rs ns) q l k g _ _ (c .before .before .before .before .before .before .before .first-urgent .ensures F rs ns q k g) _ _ _ _ _ s (c .before .before .before .before .nth .ensures .0 q _ l g) (c .before .before .remove .ensures .0 q l g s) (c .remove2 .ensures .0 _ k g s)
 
 pub pop-spec : {M : Type 1} → statement M
 pop-spec = tie.close (tie.spec first-urgent-requires returns nth-requires remove-requires remove-requires-2 returns-2)

@@ -1,19 +1,20 @@
--- "The flag byte: 1 reflexive, 2 symmetric, 4 transitive, 8 skip contradiction checks."
+-- What a run is asked with. Every definition that depends on any of it takes the whole.
 use mathlib.Core.Bool.{Bool, not, _&&_}
 use Prim.Native.Nat.{ℕ, _/_, _%_}
 use lib.Dec.{eqb}
 
-pub record Flags : Type 0 where
+pub record Setting : Type 0 where
   pub reflexive : Bool
   pub symmetric : Bool
   pub transitive : Bool
   pub skip : Bool
 
-unfoldable pub flagsOf : ℕ → Flags
-flagsOf n =
-    let bit : ℕ → Bool = λ value. eqb (n / value % 2) 1 in
+-- "The flag byte: 1 reflexive, 2 symmetric, 4 transitive, 8 skip contradiction checks."
+unfoldable pub settingOf : ℕ → Setting
+settingOf flags =
+    let bit : ℕ → Bool = λ value. eqb (flags / value % 2) 1 in
     record { reflexive = bit 1; symmetric = bit 2; transitive = bit 4; skip = bit 8 }
 
 -- "symmetric and transitive without reflexive": a world that reaches some world then reaches itself, but a world may reach none
-unfoldable pub partialEquivalence : Flags → Bool
+unfoldable pub partialEquivalence : Setting → Bool
 partialEquivalence F = F .symmetric && (F .transitive && not (F .reflexive))
