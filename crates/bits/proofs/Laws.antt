@@ -13,14 +13,13 @@ use Rattle.limits.specs.Arrays.{rowWords, leafCount, leafWords}
 use Rattle.bits.specs.Bits.{bitOf, bitAt, Bits}
 use Rattle.bits.proofs.Power.{no-bit}
 
--- zeros are the empty set
-pub bits-none : Bits (λ i. false) (replicate leafWords 0)
+-- zeros are the empty set, in an array of any length
+zeros-none : (m i : ℕ) → i / 32 < m → bitAt (replicate m 0) i ≡ false
 unfolding bitAt
-bits-none =
-    record {
-      long = length-replicate {A = ℕ} leafWords 0;
-      same = λ i h. rw (getD-replicate {A = ℕ} leafWords (i / 32) 0 0 (omega arith)) (no-bit (i % 32));
-    }
+zeros-none m i h = rw (getD-replicate {A = ℕ} m (i / 32) 0 0 h) (no-bit (i % 32))
+
+pub bits-none : Bits (λ i. false) (replicate leafWords 0)
+bits-none = record { long = length-replicate {A = ℕ} leafWords 0; same = λ i h. zeros-none leafWords i (omega arith) }
 
 -- only the numbers in range count
 pub bits-as : {p : ℕ → Bool} (q : ℕ → Bool) {a : List ℕ} → Bits p a → ((j : ℕ) → j < leafCount → p j ≡ q j) → Bits q a
