@@ -6,6 +6,7 @@ use Prim.Native.Nat.{ℕ}
 use lib.Dec.{leb}
 use lib.ListN.{length}
 use Rattle.definition.specs.Limits.{worldLimit}
+use Rattle.definition.specs.Numbers.{tooManyIdentifiers}
 use Rattle.definition.specs.Records.{decode}
 use Rattle.definition.specs.Flags.{flagsOf}
 use Rattle.definition.specs.Checks.{Lengths, Check, refused}
@@ -48,7 +49,7 @@ pub data Answer : Type 0 where
 
 unfoldable pub answerOf : Outcome → Answer
 answerOf (Refused c) = refusal (c .number) (c .place)
-answerOf Full = refusal 12 0
+answerOf Full = refusal tooManyIdentifiers 0
 answerOf (Ended s) =
     verdict
     (record {
