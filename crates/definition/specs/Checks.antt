@@ -44,7 +44,7 @@ unfoldable pub nonZeroField : Rec → Bool
 nonZeroField r = ltb (length (links r)) 2 && not (eqb (r .right) 0)
 
 -- ---- the parts
--- torn, blank, overlong: of the length in bytes
+-- the sheet's length in bytes: torn, blank, overlong
 abbrev pub sheetChecks : ℕ → List Check
 sheetChecks n =
     check partRecord 0 (not (eqb (n % recordLength) 0))
@@ -52,15 +52,15 @@ sheetChecks n =
     ∷ check tooManyRecords 0 (ltb mostRecords (n / recordLength))
     ∷ []
 
--- bad tick
+-- the flags: bad tick
 abbrev pub flagChecks : ℕ → List Check
 flagChecks flags = check unknownFlag 0 (ltb mostFlags flags) ∷ []
 
--- short tray
+-- the trays lent: short tray
 abbrev pub trayChecks : Lengths → List Check
 trayChecks lent = check shortTray 0 (isShort lent) ∷ []
 
--- unknown stain, stray mark, forward link, oversize: of record i and its expanded size
+-- record i, of this expanded size: unknown stain, stray mark, forward link, oversize
 abbrev pub checksOfRecord : ℕ → ℕ → Rec → List Check
 checksOfRecord i size r =
     check unknownKind i (ltb 8 (numberOf (r .kind)))
@@ -76,7 +76,7 @@ recordChecks sizes (r ∷ rs) =
     let size = expandedSize sizes r in
     checksOfRecord (length sizes) size r ++ recordChecks (sizes ++ (size ∷ [])) rs
 
--- unmarked, crowded
+-- the marked records: unmarked, crowded
 abbrev pub markChecks : List Rec → List Check
 markChecks rs = check noneMarked 0 (empty (marks rs)) ∷ check tooManyMarked 0 (ltb mostMarked (length (marks rs))) ∷ []
 
