@@ -8,6 +8,7 @@ use lib.Dec.{leb}
 use lib.ListN.{length, replicate}
 use borrow.Author.Tests.{lt-ltb, le-ltb}
 use Rattle.definition.specs.Limits.{nodeTrayLength, formulaTrayLength, edgeTrayLength}
+use Rattle.definition.specs.Numbers.{tooManyIdentifiers}
 use Rattle.definition.specs.Lists.{concatMap}
 use Rattle.definition.specs.Run
 use Rattle.definition.specs.Run.{State}
@@ -33,10 +34,10 @@ module _ {s : State} {p : Progress} {fa ta ea ra la va oa wa ca : List ℕ} wher
   unfolding Run.full
   laid-ended l = le-ltb 512 (length (s .nodes)) (l .room)
 
-  -- full: refusal 12, and the written lengths zeroed
+  -- full, and the written lengths zeroed
   module _ (lent : Trays) {n f e : List ℕ} where
     pub ends-full : Kept s p fa ta ea ra la va oa wa ca → 512 < p .nodes → n ≡ over (replicate 6144 0) (lent .nodes) → f ≡ over (replicate 7680 0) (lent .formulas) → e ≡ over (replicate 25 0) (lent .edges) →
-        (refusal 12 0 ≡ answerOf (outcomeOfRun s)) × (trays n f e ≡ traysAfter (outcomeOfRun s) lent)
+        (refusal tooManyIdentifiers 0 ≡ answerOf (outcomeOfRun s)) × (trays n f e ≡ traysAfter (outcomeOfRun s) lent)
     unfolding outcomeOfRun answerOf traysAfter laidOver zeroTrays
     ends-full k h a b c = rw (kept-full k h, a, b, c) (refl, refl)
 

@@ -5,6 +5,7 @@ use branch::read_records;
 use checks::Checked;
 use checks::check;
 use graph::NormalModalLogic;
+use limits::TOO_MANY_IDENTIFIERS;
 use proof::Progress;
 use queue::classify;
 use trays::clear;
@@ -130,7 +131,7 @@ fn finish(
         clear(formulas, 7680);
         clear_edges(edges);
         return Answer::Refusal {
-            number: 12,
+            number: TOO_MANY_IDENTIFIERS,
             place: 0,
         };
     }
