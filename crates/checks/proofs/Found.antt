@@ -66,7 +66,7 @@ module _ (bytes : List ℕ) (flags : ℕ) (lent : Lengths) where
       -- no more records than the sizes have room for
       pub few-records : length bytes / recordLength ≤ mostRecords
       few-records =
-          let (sheet, rest) = passed-both (sheetChecks (length bytes)) (flagChecks flags ++ trayChecks lent) (part-passed before o e t) in
+          let (sheet, others) = passed-both (sheetChecks (length bytes)) (flagChecks flags ++ trayChecks lent) (part-passed before o e t) in
           sheet-passed (length bytes) sheet
 
       past-before : firstOf later ≡ refused bytes flags lent

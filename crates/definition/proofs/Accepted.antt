@@ -135,7 +135,7 @@ accepted bytes flags lent e =
     }
 
 -- ---- of the lengths only "short tray" knows: all trays that are long enough are refused alike
-long-passes : (lent : Lengths) → LongEnough lent → isShort lent ≡ false
+pub long-passes : (lent : Lengths) → LongEnough lent → isShort lent ≡ false
 unfolding isShort
 long-passes lent h =
     let nodes = le-ltb (lent .nodes) nodeTrayLength (omega (arith, h .nodes)) in
@@ -148,16 +148,16 @@ unfolding refused checks
 long-alike bytes flags a b h k = rw (long-passes a h, long-passes b k) refl
 
 -- ---- no check before the run has the number of "full"
-abbrev Other : Check → Type 0
+abbrev pub Other : Check → Type 0
 Other c = c .number ≢ tooManyIdentifiers
 
 -- computed where the list is known
-others : (cs : List Check) → all (λ (c : Check). not (eqb (c .number) tooManyIdentifiers)) cs ≡ true → Each Other cs
+pub others : (cs : List Check) → all (λ (c : Check). not (eqb (c .number) tooManyIdentifiers)) cs ≡ true → Each Other cs
 others cs e =
     each-map (λ (c : Check) (h : not (eqb (c .number) tooManyIdentifiers) ≡ true). eqb-false (c .number) tooManyIdentifiers (not-true _ h)) cs
     (all-each (λ (c : Check). not (eqb (c .number) tooManyIdentifiers)) cs e)
 
-records-other : (sizes : List ℕ) (rs : List Rec) → Each Other (recordChecks sizes rs)
+pub records-other : (sizes : List ℕ) (rs : List Rec) → Each Other (recordChecks sizes rs)
 unfolding recordChecks
 records-other sizes [] = tt
 records-other sizes (r ∷ rs) =
