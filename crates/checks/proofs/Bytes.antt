@@ -10,6 +10,7 @@ use lib.Dec.{eqb, ltb}
 use lib.ListN.{length, getD, take, length-take, List·getD-eq-default}
 use lib.Seq.{take-all}
 use borrow.Author.Tests.{eqb-true, ltb-true, lt-ltb}
+use Rattle.definition.specs.Limits.{recordLength}
 use Rattle.definition.specs.Lists.{all, below}
 use Rattle.definition.specs.Records.{Atomic, Non, And, Or, Imply, BiImply, StrictImply, Possible, Necessary, Unknown, kindOf, numberOf, arity, links, recordAt}
 use Rattle.definition.proofs.Lists.{all-below, or-cases, not-true}
@@ -63,8 +64,8 @@ module _ (x : Record) where
         rw (← e) (lt-ltb (length (take n l)) 2 (omega (arith, length-take n l)))
 
 -- ---- the bytes of record i
-pub read-record : (bytes : List ℕ) (i : ℕ) (x : Record) → x .kind ≡ getD bytes (6 * i) 0 → x .mark ≡ getD bytes (6 * i + 1) 0
-    → x .left ≡ getD bytes (6 * i + 2) 0 + 256 * getD bytes (6 * i + 3) 0 → x .right ≡ getD bytes (6 * i + 4) 0 + 256 * getD bytes (6 * i + 5) 0
+pub read-record : (bytes : List ℕ) (i : ℕ) (x : Record) → x .kind ≡ getD bytes (recordLength * i) 0 → x .mark ≡ getD bytes (recordLength * i + 1) 0
+    → x .left ≡ getD bytes (recordLength * i + 2) 0 + 256 * getD bytes (recordLength * i + 3) 0 → x .right ≡ getD bytes (recordLength * i + 4) 0 + 256 * getD bytes (recordLength * i + 5) 0
     → recordOf x ≡ recordAt bytes i
 unfolding recordOf recordAt
 read-record bytes i x k m l r = rw (k, m, l, r, add-zero)

@@ -1,4 +1,3 @@
 pub mod Bytes
 pub mod Found
 pub mod Reading
-pub mod Tests

@@ -7,77 +7,83 @@ use mathlib.Core.Option.{Option, none}
 use mathlib.Core.Logic.{_⊎_, inl, inr}
 use native.Mathlib.Omega.{arith}
 use native.Mathlib.Numerals.{add-one}
-use lib.ListN.{length, getD, set, take, drop, replicate, length-append, drop-of-length-le, List·getD-map}
+use lib.ListN.{length, getD, set, drop, replicate, length-append, drop-of-length-le, List·getD-map}
 use lib.Seq.{drop-cons}
 use borrow.Author.Tests.{eq-eqb, ne-eqb}
 use Rattle.arrays.specs.Data.{pad}
 use Rattle.arrays.proofs.Laws.{snoc-pad}
+use Rattle.definition.specs.Limits.{recordLength, mostRecords, mostSize}
 use Rattle.definition.specs.Lists.{below}
 use Rattle.definition.specs.Records.{Rec, recordAt, decode, marksFrom, marks}
-use Rattle.definition.specs.Checks.{Check, expandedSize, recordChecks}
+use Rattle.definition.specs.Checks.{Check, expandedSize, checksOfRecord, recordChecks, firstOf}
 use Rattle.definition.proofs.Lists.{from-get}
-use Rattle.definition.proofs.Accepted.{length-decode}
+use Rattle.definition.proofs.Accepted.{length-decode, small}
 use Rattle.checks.specs.declared.Record.{Record}
-use Rattle.checks.specs.Checked.{recordOf, isRefusal, firstOf}
-use Rattle.checks.proofs.Found.{found-before, found-after}
+use Rattle.checks.specs.Checked.{recordOf, isRefusal}
+use Rattle.checks.proofs.Found.{part-passed, found-before, found-after}
 
 -- ---- the records that are left
 module _ (bytes : List ℕ) (i : ℕ) where
-  record-next : i < length bytes / 6 → drop i (decode bytes) ≡ recordAt bytes i ∷ drop (suc i) (decode bytes)
+  record-next : i < length bytes / recordLength → drop i (decode bytes) ≡ recordAt bytes i ∷ drop (suc i) (decode bytes)
   unfolding decode
   record-next h =
-      let n = length bytes / 6 in
+      let n = length bytes / recordLength in
       let e : getD (decode bytes) i (recordAt bytes 0) ≡ recordAt bytes i
       = List·getD-map (recordAt bytes) (below n) i 0 ∙ ap (recordAt bytes) (from-get n 0 i h ∙ omega arith) in
       drop-cons (decode bytes) i (recordAt bytes 0) (omega (arith, length-decode bytes)) ∙ ap (λ (r : Rec). r ∷ drop (suc i) (decode bytes)) e
 
-  record-none : length bytes / 6 ≤ i → drop i (decode bytes) ≡ []
+  record-none : length bytes / recordLength ≤ i → drop i (decode bytes) ≡ []
   record-none h = drop-of-length-le (decode bytes) {i = i} (omega (arith, length-decode bytes))
+
+-- a record that passed is no larger than the limit
+pub record-small : (x : Record) (i size : ℕ) (o : Option Check) → o ≡ firstOf (checksOfRecord i size (recordOf x)) → isRefusal o ≡ false → size ≤ mostSize
+record-small x i size o e t = small i size (recordOf x) (part-passed (checksOfRecord i size (recordOf x)) o e t)
 
 -- ---- the checks of the records before i do not apply, and the array has their sizes
 pub record Reading (bytes a : List ℕ) (i : ℕ) : Type 0 where
   pub sizes : List ℕ
   pub count : length sizes ≡ i
-  pub array : a ≡ pad 256 sizes
+  pub array : a ≡ pad mostRecords sizes
   pub left : firstOf (recordChecks sizes (drop i (decode bytes))) ≡ firstOf (recordChecks [] (decode bytes))
 
-pub reading-start : (bytes : List ℕ) → Reading bytes (replicate 256 0) 0
+pub reading-start : (bytes : List ℕ) → Reading bytes (replicate mostRecords 0) 0
 unfolding pad
 reading-start bytes = record { sizes = []; count = refl; array = refl; left = refl }
 
-pub reading-end : {bytes a : List ℕ} {i : ℕ} {o : Option Check} → Reading bytes a i → length bytes / 6 ≤ i → o ≡ none → o ≡ firstOf (recordChecks [] (decode bytes))
+pub reading-end : {bytes a : List ℕ} {i : ℕ} {o : Option Check} → Reading bytes a i → length bytes / recordLength ≤ i → o ≡ none → o ≡ firstOf (recordChecks [] (decode bytes))
 unfolding recordChecks
 reading-end {bytes} {a} {i} p h e = e ∙ ap (λ (rs : List Rec). firstOf (recordChecks (p .sizes) rs)) (sym (record-none bytes i h)) ∙ p .left
 
-module _ {bytes a : List ℕ} {i : ℕ} (p : Reading bytes a i) (h : i < length bytes / 6) (g : i < 256) (x : Record) (size : ℕ) (o : Option Check)
-    (ex : i < 256 → recordOf x ≡ recordAt bytes i)
-    (es : (s : List ℕ) → a ≡ pad 256 s → length s ≤ 256 → size ≡ expandedSize s (recordOf x))
-    (eo : (s : List ℕ) → length s ≡ i → size ≡ expandedSize s (recordOf x) → o ≡ firstOf (take 4 (recordChecks s (recordOf x ∷ [])))) where
+module _ {bytes a : List ℕ} {i : ℕ} (p : Reading bytes a i) (h : i < length bytes / recordLength) (g : i < mostRecords) (x : Record) (size : ℕ) (o : Option Check)
+    (ex : i < mostRecords → recordOf x ≡ recordAt bytes i)
+    (es : (s : List ℕ) → a ≡ pad mostRecords s → length s ≤ mostRecords → size ≡ expandedSize s (recordOf x))
+    (eo : o ≡ firstOf (checksOfRecord i size (recordOf x))) where
   known : size ≡ expandedSize (p .sizes) (recordOf x)
   known = es (p .sizes) (p .array) (omega (arith, p .count))
 
-  first : o ≡ firstOf (take 4 (recordChecks (p .sizes) (recordOf x ∷ [])))
-  first = eo (p .sizes) (p .count) known
+  -- the checks of this record, and those of the records after it
+  abbrev later : List Check
+  later = recordChecks (p .sizes ++ (size ∷ [])) (drop (suc i) (decode bytes))
 
-  left-now : firstOf (recordChecks (p .sizes) (recordOf x ∷ drop (suc i) (decode bytes))) ≡ firstOf (recordChecks [] (decode bytes))
+  left-now : firstOf (checksOfRecord i size (recordOf x) ++ later) ≡ firstOf (recordChecks [] (decode bytes))
+  unfolding recordChecks
   left-now =
-      ap (λ (rs : List Rec). firstOf (recordChecks (p .sizes) rs)) (ap (λ (r : Rec). r ∷ drop (suc i) (decode bytes)) (ex g) ∙ sym (record-next bytes i h))
+      let here : recordChecks (p .sizes) (recordOf x ∷ drop (suc i) (decode bytes)) ≡ checksOfRecord i size (recordOf x) ++ later = rw (p .count, known) refl in
+      ap firstOf (sym here)
+      ∙ ap (λ (rs : List Rec). firstOf (recordChecks (p .sizes) rs)) (ap (λ (r : Rec). r ∷ drop (suc i) (decode bytes)) (ex g) ∙ sym (record-next bytes i h))
       ∙ p .left
 
   pub reading-refused : isRefusal o ≡ true → o ≡ firstOf (recordChecks [] (decode bytes))
-  unfolding recordChecks
-  reading-refused t = found-before (take 4 (recordChecks (p .sizes) (recordOf x ∷ []))) (recordChecks (p .sizes ++ (expandedSize (p .sizes) (recordOf x) ∷ [])) (drop (suc i) (decode bytes))) o first t ∙ left-now
+  reading-refused t = found-before (checksOfRecord i size (recordOf x)) later eo t ∙ left-now
 
   pub reading-next : isRefusal o ≡ false → Reading bytes (set a i size) (i + 1)
-  unfolding recordChecks
   reading-next t =
       let s = p .sizes in
-      let z = expandedSize s (recordOf x) in
       record {
-        sizes = s ++ (z ∷ []);
-        count = omega (arith, length-append s (z ∷ []), p .count);
-        array = rw (known, p .array, ← p .count) (snoc-pad 256 s z (omega (arith, p .count)));
-        left = rw add-one (found-after (take 4 (recordChecks s (recordOf x ∷ []))) (recordChecks (s ++ (z ∷ [])) (drop (suc i) (decode bytes))) o first t ∙ left-now);
+        sizes = s ++ (size ∷ []);
+        count = omega (arith, length-append s (size ∷ []), p .count);
+        array = rw (p .array, ← p .count) (snoc-pad mostRecords s size (omega (arith, p .count)));
+        left = rw add-one (found-after (checksOfRecord i size (recordOf x)) later eo t ∙ left-now);
       }
 
 -- ---- n of the records before i are marked
@@ -87,13 +93,13 @@ pub record Counting (bytes : List ℕ) (n i : ℕ) : Type 0 where
 pub counting-start : (bytes : List ℕ) → Counting bytes 0 0
 counting-start bytes = record { left = omega arith }
 
-pub counting-end : {bytes : List ℕ} {n i : ℕ} → Counting bytes n i → length bytes / 6 ≤ i → n ≡ length (marks (decode bytes))
+pub counting-end : {bytes : List ℕ} {n i : ℕ} → Counting bytes n i → length bytes / recordLength ≤ i → n ≡ length (marks (decode bytes))
 unfolding marksFrom
 counting-end {bytes} {n} {i} p h =
     let e : length (marksFrom i (drop i (decode bytes))) ≡ 0 = rw (record-none bytes i h) in
     omega (arith, p .left)
 
-module _ {bytes : List ℕ} {n i : ℕ} (p : Counting bytes n i) (h : i < length bytes / 6) (g : i < 256) (x : Record) (ex : i < 256 → recordOf x ≡ recordAt bytes i) where
+module _ {bytes : List ℕ} {n i : ℕ} (p : Counting bytes n i) (h : i < length bytes / recordLength) (g : i < mostRecords) (x : Record) (ex : i < mostRecords → recordOf x ≡ recordAt bytes i) where
   mark : recordAt bytes i .mark ≡ x .mark
   unfolding recordOf
   mark = ap (λ (r : Rec). r .mark) (sym (ex g))

@@ -1,13 +1,8 @@
 -- What code has of a record, and of the check that applies.
 use mathlib.Core.Bool.{Bool, true, false}
-use mathlib.Core.List.{List, [], _∷_}
 use mathlib.Core.Option.{Option, none, some}
 use Prim.Native.Nat.{ℕ}
-use lib.Dec.{ltb}
-use lib.ListN.{length}
-use Rattle.definition.specs.Limits.{mostMarked}
-use Rattle.definition.specs.Lists.{find, empty}
-use Rattle.definition.specs.Records.{Rec, kindOf, marks}
+use Rattle.definition.specs.Records.{Rec, kindOf}
 use Rattle.definition.specs.Checks.{Lengths, Check, check}
 use Rattle.checks.specs.declared.Record.{Record}
 use Rattle.checks.specs.declared.Checked.{Checked}
@@ -29,11 +24,3 @@ isRefusal (some c) = true
 
 abbrev pub lengths : ℕ → ℕ → ℕ → Lengths
 lengths nodes formulas edges = record { nodes = nodes; formulas = formulas; edges = edges }
-
--- the first of these checks that applies
-abbrev pub firstOf : List Check → Option Check
-firstOf = find (λ (c : Check). c .applies)
-
--- the checks 10 and 11
-unfoldable pub markChecks : List Rec → List Check
-markChecks rs = check 10 0 (empty (marks rs)) ∷ check 11 0 (ltb mostMarked (length (marks rs))) ∷ []

@@ -1,16 +1,36 @@
-// The records of a branch, and the checks 1 to 11 in their order.
+// The records of a branch, and the checks before the run, part by part in their order.
+use limits::EDGE_TRAY_LENGTH;
+use limits::FORMULA_TRAY_LENGTH;
+use limits::FORWARD_LINK;
+use limits::MOST_FLAGS;
+use limits::MOST_MARKED;
+use limits::MOST_RECORDS;
+use limits::MOST_SIZE;
+use limits::NO_RECORD;
+use limits::NODE_TRAY_LENGTH;
+use limits::NONE_MARKED;
+use limits::OVERSIZE;
+use limits::PART_RECORD;
+use limits::RECORD_LENGTH;
+use limits::SHORT_TRAY;
+use limits::STRAY_FIELD;
+use limits::TOO_MANY_MARKED;
+use limits::TOO_MANY_RECORDS;
+use limits::UNKNOWN_FLAG;
+use limits::UNKNOWN_KIND;
 ghost use mathlib.Core.Path.{_≡_};
 ghost use mathlib.Core.Bool.{true, false, _||_};
-ghost use mathlib.Core.List.{List, [], _∷_};
+ghost use mathlib.Core.List.{List, [], _++_};
 ghost use mathlib.Core.Option.{none, some};
 ghost use Prim.Native.Nat.{ℕ, _<_, _≤_, _+_, _*_, _/_};
-ghost use lib.ListN.{length, getD, take};
+ghost use lib.ListN.{length, getD};
 ghost use lib.Dec.{ltb, leb};
 ghost use Rattle.arrays.specs.Data.{pad};
-ghost use Rattle.definition.specs.Lists.{any};
+ghost use Rattle.definition.specs.Limits.{recordLength, mostRecords};
+ghost use Rattle.definition.specs.Lists.{any, orElse};
 ghost use Rattle.definition.specs.Records.{Rec, kindOf, arity, links, recordAt, decode, marks};
-ghost use Rattle.definition.specs.Checks.{check, expandedSize, nonZeroField, recordChecks, checks, refused};
-ghost use Rattle.checks.specs.Checked.{recordOf, checkOf, isRefusal, lengths, firstOf, markChecks};
+ghost use Rattle.definition.specs.Checks.{check, isShort, expandedSize, nonZeroField, sheetChecks, flagChecks, trayChecks, checksOfRecord, recordChecks, markChecks, firstOf, refused};
+ghost use Rattle.checks.specs.Checked.{recordOf, checkOf, isRefusal, lengths};
 
 // A record of the branch; the kind is its byte.
 pub struct Record {
@@ -55,11 +75,11 @@ fn field(branch: &[u8], low: usize, high: usize) -> u16
     byte(branch, low) + 256 * byte(branch, high)
 }
 
-// Record number i, of the first 256; zeros of a later one.
+// Record number i, of as many as a branch may have; zeros of a later one.
 pub fn record_at(branch: &[u8], i: usize) -> Record
-    ensures { λ r. ⌜ (i < 256 → recordOf r ≡ recordAt (now (branch .entry)) i) × (256 ≤ i → r ≡ record { kind = 0; mark = 0; left = 0; right = 0 }) ⌝ }
+    ensures { λ r. ⌜ (i < mostRecords → recordOf r ≡ recordAt (now (branch .entry)) i) × (mostRecords ≤ i → r ≡ record { kind = 0; mark = 0; left = 0; right = 0 }) ⌝ }
 {
-    if 256 <= i {
+    if MOST_RECORDS <= i {
         return Record {
             kind: 0,
             mark: 0,
@@ -67,7 +87,7 @@ pub fn record_at(branch: &[u8], i: usize) -> Record
             right: 0,
         };
     }
-    let at = 6 * i;
+    let at = RECORD_LENGTH * i;
     Record {
         kind: byte(branch, at),
         mark: byte(branch, at + 1),
@@ -96,19 +116,19 @@ fn link_count(kind: u16) -> u16
 }
 
 // Entry l of the sizes; 0 beyond the end.
-fn size_at(sizes: &[u16; 256], l: u16) -> usize
-    ensures { λ r. ⌜ ((s : List ℕ) → now (sizes .entry) ≡ pad 256 s → length s ≤ 256 → r ≡ getD s l 0) × (r < 65536) ⌝ }
+fn size_at(sizes: &[u16; MOST_RECORDS], l: u16) -> usize
+    ensures { λ r. ⌜ ((s : List ℕ) → now (sizes .entry) ≡ pad mostRecords s → length s ≤ mostRecords → r ≡ getD s l 0) × (r < 65536) ⌝ }
 {
     let i = l as usize;
-    if 256 <= i {
+    if MOST_RECORDS <= i {
         return 0;
     }
     wide_size(sizes[i])
 }
 
 // The expanded size, by the sizes of the records before.
-fn expanded_size(sizes: &[u16; 256], x: Record) -> usize
-    ensures { λ r. ⌜ ((s : List ℕ) → now (sizes .entry) ≡ pad 256 s → length s ≤ 256 → r ≡ expandedSize s (recordOf x)) ⌝ }
+fn expanded_size(sizes: &[u16; MOST_RECORDS], x: Record) -> usize
+    ensures { λ r. ⌜ ((s : List ℕ) → now (sizes .entry) ≡ pad mostRecords s → length s ≤ mostRecords → r ≡ expandedSize s (recordOf x)) ⌝ }
 {
     let n = link_count(x.kind);
     if n == 0 {
@@ -132,7 +152,7 @@ fn non_zero_field(x: Record) -> bool
 }
 
 // A mark above 1, or a field that is zero by the table and is not.
-fn stray_mark(x: Record) -> bool
+fn is_stray(x: Record) -> bool
     ensures { λ r. ⌜ r ≡ (ltb 1 (recordOf x .mark) || nonZeroField (recordOf x)) ⌝ }
 {
     if 1 < x.mark {
@@ -182,73 +202,105 @@ fn is_refusal(c: Checked) -> bool
     }
 }
 
-// A tray below its length.
-fn short_tray(nodes: usize, formulas: usize, edges: usize) -> bool
-    ensures { λ r. ⌜ r ≡ (ltb nodes 6144 || (ltb formulas 7680 || ltb edges 25)) ⌝ }
+// The first refusal of the two.
+fn or_else(a: Checked, b: Checked) -> Checked
+    ensures { λ r. ⌜ checkOf r ≡ orElse (checkOf a) (checkOf b) ⌝ }
 {
-    if nodes < 6144 {
-        return true;
+    if is_refusal(a) {
+        return a;
     }
-    if formulas < 7680 {
-        return true;
-    }
-    edges < 25
+    b
 }
 
-// The checks 1 to 5.
-fn check_sizes(bytes: usize, flags: u8, nodes: usize, formulas: usize, edges: usize) -> Checked
-    ensures { λ r. ⌜ ((l : List ℕ) → length l ≡ bytes → checkOf r ≡ firstOf (take 5 (checks l flags (lengths nodes formulas edges)))) ⌝ }
+// The sheet's length: torn, blank, overlong.
+fn check_sheet(bytes: usize) -> Checked
+    ensures { λ r. ⌜ checkOf r ≡ firstOf (sheetChecks bytes) ⌝ }
 {
-    if bytes % 6 != 0 {
-        return refusal(1, 0);
+    if bytes % RECORD_LENGTH != 0 {
+        return refusal(PART_RECORD, 0);
     }
     if bytes == 0 {
-        return refusal(2, 0);
+        return refusal(NO_RECORD, 0);
     }
-    if 256 < bytes / 6 {
-        return refusal(3, 0);
-    }
-    if 15 < flags {
-        return refusal(4, 0);
-    }
-    if short_tray(nodes, formulas, edges) {
-        return refusal(5, 0);
+    if MOST_RECORDS < bytes / RECORD_LENGTH {
+        return refusal(TOO_MANY_RECORDS, 0);
     }
     accepted()
 }
 
-// The checks 6 to 9 of record i.
+// The flags: bad tick.
+fn check_flags(flags: u8) -> Checked
+    ensures { λ r. ⌜ checkOf r ≡ firstOf (flagChecks flags) ⌝ }
+{
+    if MOST_FLAGS < flags {
+        return refusal(UNKNOWN_FLAG, 0);
+    }
+    accepted()
+}
+
+// A tray below its length.
+fn is_short(nodes: usize, formulas: usize, edges: usize) -> bool
+    ensures { λ r. ⌜ r ≡ isShort (lengths nodes formulas edges) ⌝ }
+{
+    if nodes < NODE_TRAY_LENGTH {
+        return true;
+    }
+    if formulas < FORMULA_TRAY_LENGTH {
+        return true;
+    }
+    edges < EDGE_TRAY_LENGTH
+}
+
+// The trays lent: short tray.
+fn check_trays(nodes: usize, formulas: usize, edges: usize) -> Checked
+    ensures { λ r. ⌜ checkOf r ≡ firstOf (trayChecks (lengths nodes formulas edges)) ⌝ }
+{
+    if is_short(nodes, formulas, edges) {
+        return refusal(SHORT_TRAY, 0);
+    }
+    accepted()
+}
+
+// What is checked before any record is read, part by part.
+fn check_sizes(bytes: usize, flags: u8, nodes: usize, formulas: usize, edges: usize) -> Checked
+    ensures { λ r. ⌜ checkOf r ≡ firstOf (sheetChecks bytes ++ (flagChecks flags ++ trayChecks (lengths nodes formulas edges))) ⌝ }
+{
+    let sheet = check_sheet(bytes);
+    let flagged = check_flags(flags);
+    let lent = check_trays(nodes, formulas, edges);
+    or_else(sheet, or_else(flagged, lent))
+}
+
+// Record i: unknown stain, stray mark, forward link, oversize.
 fn check_record(x: Record, i: u16, size: usize) -> Checked
-    ensures { λ r. ⌜ ((s : List ℕ) → length s ≡ i → size ≡ expandedSize s (recordOf x) → checkOf r ≡ firstOf (take 4 (recordChecks s (recordOf x ∷ []))))
-        × (isRefusal (checkOf r) ≡ false → size ≤ 4096) ⌝ }
+    ensures { λ r. ⌜ checkOf r ≡ firstOf (checksOfRecord i size (recordOf x)) ⌝ }
 {
     if 8 < x.kind {
-        return refusal(6, i);
+        return refusal(UNKNOWN_KIND, i);
     }
-    if stray_mark(x) {
-        return refusal(7, i);
+    if is_stray(x) {
+        return refusal(STRAY_FIELD, i);
     }
-    let forward = links_forward(x, i);
-    if forward {
-        return refusal(8, i);
+    if links_forward(x, i) {
+        return refusal(FORWARD_LINK, i);
     }
-    if 4096 < size {
-        return refusal(9, i);
+    if MOST_SIZE < size {
+        return refusal(OVERSIZE, i);
     }
     accepted()
 }
 
-// The checks 6 to 9, record by record.
+// The checks of each record in turn.
 fn check_records(branch: &[u8], count: usize) -> Checked
-    ensures { λ r. ⌜ (count ≡ length (now (branch .entry)) / 6 → count ≤ 256 → checkOf r ≡ firstOf (recordChecks [] (decode (now (branch .entry))))) ⌝ }
+    ensures { λ r. ⌜ (count ≡ length (now (branch .entry)) / recordLength → count ≤ mostRecords → checkOf r ≡ firstOf (recordChecks [] (decode (now (branch .entry))))) ⌝ }
 {
-    let mut sizes = [0u16; 256];
+    let mut sizes = [0u16; MOST_RECORDS];
     let mut i: usize = 0;
     while i < count {
-        if 256 <= i {
+        if MOST_RECORDS <= i {
             return accepted();
         }
-        if branch.len() < 6 * i + 6 {
+        if branch.len() < RECORD_LENGTH * i + RECORD_LENGTH {
             return accepted();
         }
         let x = record_at(branch, i);
@@ -265,12 +317,12 @@ fn check_records(branch: &[u8], count: usize) -> Checked
 
 // How many records are marked.
 fn marked(branch: &[u8], count: usize) -> usize
-    ensures { λ r. ⌜ (count ≡ length (now (branch .entry)) / 6 → count ≤ 256 → r ≡ length (marks (decode (now (branch .entry))))) ⌝ }
+    ensures { λ r. ⌜ (count ≡ length (now (branch .entry)) / recordLength → count ≤ mostRecords → r ≡ length (marks (decode (now (branch .entry))))) ⌝ }
 {
     let mut n: usize = 0;
     let mut i: usize = 0;
     while i < count {
-        if 256 <= i {
+        if MOST_RECORDS <= i {
             return n;
         }
         let x = record_at(branch, i);
@@ -282,20 +334,20 @@ fn marked(branch: &[u8], count: usize) -> usize
     n
 }
 
-// The checks 10 and 11, by the count of the marked records.
+// The count of the marked records: unmarked, crowded.
 fn check_marked(n: usize) -> Checked
     ensures { λ r. ⌜ ((rs : List Rec) → n ≡ length (marks rs) → checkOf r ≡ firstOf (markChecks rs)) ⌝ }
 {
     if n == 0 {
-        return refusal(10, 0);
+        return refusal(NONE_MARKED, 0);
     }
-    if 64 < n {
-        return refusal(11, 0);
+    if MOST_MARKED < n {
+        return refusal(TOO_MANY_MARKED, 0);
     }
     accepted()
 }
 
-// The checks 1 to 11 of a branch, a flag byte and the lengths of the trays lent.
+// The checks of a branch, a flag byte and the lengths of the trays lent.
 pub fn check(branch: &[u8], flags: u8, nodes: usize, formulas: usize, edges: usize) -> Checked
     ensures { λ r. ⌜ checkOf r ≡ refused (now (branch .entry)) flags (lengths nodes formulas edges) ⌝ }
 {
@@ -304,7 +356,7 @@ pub fn check(branch: &[u8], flags: u8, nodes: usize, formulas: usize, edges: usi
     if is_refusal(c) {
         return c;
     }
-    let count = bytes / 6;
+    let count = bytes / RECORD_LENGTH;
     let d = check_records(branch, count);
     if is_refusal(d) {
         return d;

@@ -9,6 +9,7 @@ use native.Mathlib.Omega.{arith}
 use native.Mathlib.Nat.{pow-suc}
 use lib.ListN.{length, getD}
 use Rattle.definition.specs.Limits.{mostIdentifiers}
+use Rattle.definition.specs.RefusalNumbers.{tooManyIdentifiers}
 use Rattle.definition.specs.Lists.{Each, below}
 use Rattle.definition.specs.Records.{Rec, Unknown, numberOf, recordAt, decode, made, recAt}
 use Rattle.definition.specs.Setting.{Setting, settingOf}
@@ -17,7 +18,7 @@ use Rattle.definition.specs.Run.{State, full, stops, run, start, Passes,
 use Rattle.definition.specs.Trays.{Trays, rowNumber, traysOf, zeroTrays, laidOver}
 use Rattle.definition.specs.Call.{Outcome, Refused, Full, Ended, outcomeOfRun, outcomeBy, outcome, refusal, answerOf, answer, traysAfter, traysLeft, lengthsOf}
 use Rattle.definition.proofs.Lists.{each-of, each-both, each-any, each-of-map}
-use Rattle.definition.proofs.Accepted.{Accepted, accepted, long-alike, refused-low}
+use Rattle.definition.proofs.Accepted.{Accepted, accepted, long-alike, refused-other}
 use Rattle.definition.proofs.Exact.{full-exactly}
 use Rattle.definition.proofs.Forms.{WellFormed}
 use Rattle.definition.proofs.Bounds.{RecordFits, Bounded, run-bounded, bounded-formulas}
@@ -128,29 +129,29 @@ module _ (branch : List ℕ) (flags : ℕ) (lent : Trays) where
   abbrev y : State
   y = final (settingOf flags) (decode branch)
 
-  twelve-full : (place : ℕ) → answer branch flags lent ≡ refusal 12 place → (refused branch flags (lengthsOf lent) ≡ none) × (full y ≡ true)
+  twelve-full : (place : ℕ) → answer branch flags lent ≡ refusal tooManyIdentifiers place → (refused branch flags (lengthsOf lent) ≡ none) × (full y ≡ true)
   unfolding answer outcome outcomeBy outcomeOfRun answerOf
   twelve-full place = go (refused branch flags (lengthsOf lent)) refl
     where
-      ran : (b : Bool) → full y ≡ b → answerOf (settingOf flags) (cond b Full (Ended y)) ≡ refusal 12 place → full y ≡ true
+      ran : (b : Bool) → full y ≡ b → answerOf (settingOf flags) (cond b Full (Ended y)) ≡ refusal tooManyIdentifiers place → full y ≡ true
       ran true q a = q
       ran false q a = let o : _≡_ {A = ℕ} 0 1 = cc in absurd (omega arith)
 
-      go : (o : Option Check) → refused branch flags (lengthsOf lent) ≡ o → answerOf (settingOf flags) (outcomeBy branch flags o) ≡ refusal 12 place → (refused branch flags (lengthsOf lent) ≡ none) × (full y ≡ true)
-      go (some c) q a = let d : c .number ≡ 12 = cc in absurd (omega (arith, d, refused-low branch flags (lengthsOf lent) c q))
+      go : (o : Option Check) → refused branch flags (lengthsOf lent) ≡ o → answerOf (settingOf flags) (outcomeBy branch flags o) ≡ refusal tooManyIdentifiers place → (refused branch flags (lengthsOf lent) ≡ none) × (full y ≡ true)
+      go (some c) q a = let d : c .number ≡ tooManyIdentifiers = cc in absurd (refused-other branch flags (lengthsOf lent) c q d)
       go none q a = (q, ran (full y) refl a)
 
   full-outcome : refused branch flags (lengthsOf lent) ≡ none → full y ≡ true → outcome branch flags (lengthsOf lent) ≡ Full
   unfolding outcome outcomeBy outcomeOfRun
   full-outcome e f = rw (e, f) refl
 
-  pub twelve-exactly : (answer branch flags lent ≡ refusal 12 0) ↔ ((refused branch flags (lengthsOf lent) ≡ none) × Passes (settingOf flags) (decode branch))
+  pub twelve-exactly : (answer branch flags lent ≡ refusal tooManyIdentifiers 0) ↔ ((refused branch flags (lengthsOf lent) ≡ none) × Passes (settingOf flags) (decode branch))
   unfolding answer answerOf
   twelve-exactly =
       let k = full-exactly (settingOf flags) (decode branch) in
       (λ a. let h = twelve-full 0 a in (h .0, k .0 (h .1)), λ p. ap (answerOf (settingOf flags)) (full-outcome (p .0) (k .1 (p .1))))
 
-  pub twelve-zeroes : (place : ℕ) → answer branch flags lent ≡ refusal 12 place → traysLeft branch flags lent ≡ laidOver zeroTrays lent
+  pub twelve-zeroes : (place : ℕ) → answer branch flags lent ≡ refusal tooManyIdentifiers place → traysLeft branch flags lent ≡ laidOver zeroTrays lent
   unfolding traysLeft traysAfter
   twelve-zeroes place a = let h = twelve-full place a in ap (λ (o : Outcome). traysAfter o lent) (full-outcome (h .0) (h .1))
 

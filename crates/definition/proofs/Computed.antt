@@ -31,7 +31,7 @@ unfoldable pub computed : List ℕ → ℕ → Lengths → Outcome
 unfolding
     outcome Call.outcomeBy Call.outcomeOfRun Setting.settingOf
     Records.kindOf Records.numberOf Records.arity Records.recordAt Records.decode Records.recAt Records.formulaOf Records.marksFrom
-    Checks.expandedSize Checks.nonZeroField Checks.recordChecks Checks.checks Checks.refused
+    Checks.isShort Checks.expandedSize Checks.nonZeroField Checks.recordChecks Checks.checks Checks.refused
     Graph.edge Graph.graphOf Graph.emptyGraph Graph.addMissingReflexiveVertices Graph.addMissingSymmetricVertices Graph.paired Graph.addMissingTransitiveVertices Graph.addMissingGraphVertices Graph.initializeGraphIfNeeded Graph.fork Graph.reached
     Tree.setChild Tree.isContradictory Tree.link Tree.linkChain Tree.isLeaf Tree.only Tree.leavesBelow Tree.upward Tree.leaves Tree.path
     Rules.nonExpansion Rules.expansionBy Rules.expansion

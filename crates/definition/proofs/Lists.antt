@@ -2,14 +2,14 @@
 use mathlib.Core.Path.{_≡_, refl, sym, ap, _∙_, subst}
 use mathlib.Core.Bool.{Bool, true, false, not, _&&_, _||_, cond}
 use mathlib.Core.List.{List, [], _∷_, _++_, map, reverse, reverseAux}
-use mathlib.Core.Option.{some}
+use mathlib.Core.Option.{none, some}
 use mathlib.Core.Logic.{_⊎_, inl, inr, ⊎-elim, ⊎-map, _≢_}
 use Prim.Native.Nat.{ℕ, zero, suc, _<_, _≤_, _+_}
 use native.Mathlib.Omega.{arith}
 use lib.Dec.{eqb}
 use borrow.Author.Tests.{eqb-true, eqb-false, eq-eqb, ne-eqb}
 use lib.ListN.{length, getD}
-use Rattle.definition.specs.Lists.{any, all, find, filter, Each, upFrom, below, elem}
+use Rattle.definition.specs.Lists.{any, all, find, filter, orElse, Each, upFrom, below, elem}
 
 pub true-false : {A : Type 0} → true ≡ false → A
 true-false {A} e = let z : _≡_ {A = ℕ} 0 1 = cc (e) in absurd (omega arith)
@@ -152,6 +152,24 @@ module _ {A : Type 0} where
       go : (b : Bool) → cond b (some x) (find p xs) ≡ some y → (find p xs ≡ some y → P y) → P y
       go true d k = let q : x ≡ y = cc in subst P q (h .0)
       go false d k = k d
+
+  -- nothing is found where nothing passes
+  pub find-none : (p : A → Bool) (xs : List A) → find p xs ≡ none → Each (λ x. p x ≡ false) xs
+  find-none p [] e = tt
+  find-none p (x ∷ xs) e = go (p x) refl e (find-none p xs)
+    where
+      go : (b : Bool) → p x ≡ b → cond b (some x) (find p xs) ≡ none → (find p xs ≡ none → Each (λ y. p y ≡ false) xs) → (p x ≡ false) × Each (λ y. p y ≡ false) xs
+      go true q d f = let z : _≡_ {A = ℕ} 0 1 = cc in absurd (omega arith)
+      go false q d f = (q, f d)
+
+  -- the first of two lists joined: of the one, or else of the other
+  pub find-append : (p : A → Bool) (xs ys : List A) → find p (xs ++ ys) ≡ orElse (find p xs) (find p ys)
+  find-append p [] ys = refl
+  find-append p (x ∷ xs) ys = go (p x) (find-append p xs ys)
+    where
+      go : (b : Bool) → find p (xs ++ ys) ≡ orElse (find p xs) (find p ys) → cond b (some x) (find p (xs ++ ys)) ≡ orElse (cond b (some x) (find p xs)) (find p ys)
+      go true e = refl
+      go false e = e
 
   -- what is sifted passes, and keeps what held of each
   pub each-filter : (P : A → Type 0) (p : A → Bool) (xs : List A) → Each P xs → Each (λ x. P x × (p x ≡ true)) (filter p xs)

@@ -6,6 +6,7 @@ use Prim.Native.Nat.{ℕ}
 use lib.Dec.{leb}
 use lib.ListN.{length}
 use Rattle.definition.specs.Limits.{worldLimit}
+use Rattle.definition.specs.RefusalNumbers.{tooManyIdentifiers}
 use Rattle.definition.specs.Records.{decode}
 use Rattle.definition.specs.Setting.{Setting, settingOf}
 use Rattle.definition.specs.Checks.{Lengths, Check, refused}
@@ -48,7 +49,7 @@ pub data Answer : Type 0 where
 
 unfoldable pub answerOf : Setting → Outcome → Answer
 answerOf F (Refused c) = refusal (c .number) (c .place)
-answerOf F Full = refusal 12 0
+answerOf F Full = refusal tooManyIdentifiers 0
 answerOf F (Ended s) =
     verdict
     (record {

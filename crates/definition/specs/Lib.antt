@@ -1,4 +1,5 @@
 pub mod Limits
+pub mod RefusalNumbers
 pub mod Lists
 pub mod Records
 pub mod Checks

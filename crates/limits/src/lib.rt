@@ -1,4 +1,4 @@
-// The numbers of definition/specs/Limits under the same names, the lengths of specs/Arrays, and a type for each array that is lent.
+// The numbers of definition/specs/Limits and specs/Numbers under the same names, the lengths of specs/Arrays, and a type for each array that is lent.
 
 pub const RECORD_LENGTH: usize = 6;
 
@@ -57,6 +57,31 @@ pub const ROW_WORDS: usize = MOST_IDENTIFIERS / 32;
 pub const LEAF_COUNT: usize = MOST_IDENTIFIERS * MOST_IDENTIFIERS;
 
 pub const LEAF_WORDS: usize = MOST_IDENTIFIERS * ROW_WORDS;
+
+// The refusals' numbers.
+pub const PART_RECORD: u16 = 1;
+
+pub const NO_RECORD: u16 = 2;
+
+pub const TOO_MANY_RECORDS: u16 = 3;
+
+pub const UNKNOWN_FLAG: u16 = 4;
+
+pub const SHORT_TRAY: u16 = 5;
+
+pub const UNKNOWN_KIND: u16 = 6;
+
+pub const STRAY_FIELD: u16 = 7;
+
+pub const FORWARD_LINK: u16 = 8;
+
+pub const OVERSIZE: u16 = 9;
+
+pub const NONE_MARKED: u16 = 10;
+
+pub const TOO_MANY_MARKED: u16 = 11;
+
+pub const TOO_MANY_IDENTIFIERS: u16 = 12;
 
 // A list of identifiers or worlds, from its first entry on.
 pub type Numbers = [u16; MOST_IDENTIFIERS];

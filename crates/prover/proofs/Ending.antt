@@ -8,6 +8,7 @@ use lib.Dec.{leb}
 use lib.ListN.{length, replicate}
 use borrow.Author.Tests.{lt-ltb, le-ltb}
 use Rattle.definition.specs.Limits.{mostIdentifiers, worldLimit, graphWidth, nodeTrayLength, formulaTrayLength, edgeTrayLength}
+use Rattle.definition.specs.RefusalNumbers.{tooManyIdentifiers}
 use Rattle.definition.specs.Lists.{concatMap}
 use Rattle.definition.specs.Setting.{Setting}
 use Rattle.definition.specs.Run
@@ -34,10 +35,10 @@ module _ {F : Setting} {s : State} {p : Progress} {fa ta ea ra la va oa wa ca : 
   unfolding Run.full
   laid-ended l = le-ltb mostIdentifiers (length (s .nodes)) (l .room)
 
-  -- full: refusal 12, and the written lengths zeroed
+  -- full, and the written lengths zeroed
   module _ (lent : Trays) {n f e : List ℕ} where
     pub ends-full : Kept F s p fa ta ea ra la va oa wa ca → mostIdentifiers < p .nodes → n ≡ over (replicate nodeTrayLength 0) (lent .nodes) → f ≡ over (replicate formulaTrayLength 0) (lent .formulas) → e ≡ over (replicate graphWidth 0) (lent .edges) →
-        (refusal 12 0 ≡ answerOf F (outcomeOfRun s)) × (trays n f e ≡ traysAfter (outcomeOfRun s) lent)
+        (refusal tooManyIdentifiers 0 ≡ answerOf F (outcomeOfRun s)) × (trays n f e ≡ traysAfter (outcomeOfRun s) lent)
     unfolding outcomeOfRun answerOf traysAfter laidOver zeroTrays
     ends-full k h a b c = rw (kept-full k h, a, b, c) (refl, refl)
 

@@ -8,6 +8,7 @@ use Prim.Native.Nat.{ℕ, suc, _≤_, _<_, _/_}
 use native.Mathlib.Omega.{arith}
 use lib.ListN.{length}
 use Rattle.definition.specs.Limits.{recordLength, mostRecords, mostMarked, mostIdentifiers, worldLimit}
+use Rattle.definition.specs.RefusalNumbers.{tooManyIdentifiers}
 use Rattle.definition.specs.Lists.{Each, empty}
 use Rattle.definition.specs.Records.{Rec, Unknown, nobody, made, decode, recAt, marks}
 use Rattle.definition.specs.Setting.{Setting, settingOf}
@@ -39,10 +40,10 @@ module _ (branch : List ℕ) (flags : ℕ) (lent : Trays) where
   abbrev o : Outcome
   o = outcome branch flags (lengthsOf lent)
 
-  keeps : (x : Outcome) (number place : ℕ) → answerOf (settingOf flags) x ≡ refusal number place → number ≤ 11 → traysAfter x lent ≡ lent
+  keeps : (x : Outcome) (number place : ℕ) → answerOf (settingOf flags) x ≡ refusal number place → (number ≡ tooManyIdentifiers → ⊥) → traysAfter x lent ≡ lent
   unfolding answerOf traysAfter
   keeps (Refused c) number place e h = refl
-  keeps Full number place e h = let d : 12 ≡ number = cc in absurd (omega (arith, h, d))
+  keeps Full number place e h = absurd (h (cc))
   keeps (Ended s) number place e h = let d : _≡_ {A = ℕ} 0 1 = cc in absurd (omega arith)
 
   -- the answer and the trays give the other clauses

@@ -4,7 +4,8 @@ use mathlib.Core.Bool.{false}
 use mathlib.Core.List.{List}
 use mathlib.Core.Option.{none}
 use mathlib.Core.Logic.{_↔_}
-use Prim.Native.Nat.{ℕ, _≤_}
+use Prim.Native.Nat.{ℕ}
+use Rattle.definition.specs.RefusalNumbers.{tooManyIdentifiers}
 use Rattle.definition.specs.Records.{decode}
 use Rattle.definition.specs.Checks.{refused}
 use Rattle.definition.specs.Setting.{settingOf, partialEquivalence}
@@ -22,12 +23,12 @@ pub record Contract (branch : List ℕ) (flags : ℕ) (lent : Trays) (said : Ans
   pub answers : said ≡ answer branch flags lent
   -- each tray: what the definition lays out, byte for byte, then what lay beyond
   pub leaves : left ≡ traysLeft branch flags lent
-  -- "Refusals 1 to 11 write nothing"
-  pub refusalsKeep : (number place : ℕ) → said ≡ refusal number place → number ≤ 11 → left ≡ lent
+  -- "Refusals 1 to 11 write nothing": any refusal but "full"
+  pub refusalsKeep : (number place : ℕ) → said ≡ refusal number place → (number ≡ tooManyIdentifiers → ⊥) → left ≡ lent
   -- demand 2: ""full" comes exactly when that run passes 512 identifiers": the run is the paper's own loop, which knows no 512
-  pub fullExactly : (said ≡ refusal 12 0) ↔ ((refused branch flags (lengthsOf lent) ≡ none) × Passes (settingOf flags) (decode branch))
+  pub fullExactly : (said ≡ refusal tooManyIdentifiers 0) ↔ ((refused branch flags (lengthsOf lent) ≡ none) × Passes (settingOf flags) (decode branch))
   -- "12 zeroes the three lengths"
-  pub fullZeroes : (place : ℕ) → said ≡ refusal 12 place → left ≡ laidOver zeroTrays lent
+  pub fullZeroes : (place : ℕ) → said ≡ refusal tooManyIdentifiers place → left ≡ laidOver zeroTrays lent
   -- demand 3: "if a verdict is returned in which `proved` is true, late beside it or not, then no world of any finite Kripke model
   -- with the flagged properties (..), however large, makes every formula of the branch true"
   pub provedIsSound : Proved said → NoModel (settingOf flags) (decode branch)

@@ -16,6 +16,7 @@ use limits::NECESSITY_CELLS;
 use limits::NODE_CELLS;
 use limits::NODE_TRAY_LENGTH;
 use limits::Nodes;
+use limits::TOO_MANY_IDENTIFIERS;
 use limits::WORLD_LIMIT;
 use limits::Waiting;
 use proof::Progress;
@@ -128,7 +129,7 @@ fn finish(
         clear(formulas, FORMULA_TRAY_LENGTH);
         clear_edges(edges);
         return Answer::Refusal {
-            number: 12,
+            number: TOO_MANY_IDENTIFIERS,
             place: 0,
         };
     }

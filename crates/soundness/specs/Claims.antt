@@ -8,6 +8,7 @@ use mathlib.Core.Logic.{_⊎_, _↔_, _≢_}
 use Prim.Native.Nat.{ℕ, suc, _<_, _≤_, _+_, _^_}
 use lib.ListN.{length, drop}
 use Rattle.definition.specs.Limits.{mostIdentifiers, worldLimit, graphWidth, mostFormulas, nodeTrayLength, formulaTrayLength, edgeTrayLength}
+use Rattle.definition.specs.RefusalNumbers.{tooManyIdentifiers}
 use Rattle.definition.specs.Lists.{Each, Distinct, empty}
 use Rattle.definition.specs.Records.{Rec, nobody, isNobody, decode, marks, numberOf}
 use Rattle.definition.specs.Formula.{formAt}
@@ -53,10 +54,10 @@ NotFullExactly = (k : ℕ) (F : Setting) (rs : List Rec) → mostIdentifiers < k
 abbrev pub TwelveExactly : Type 0
 TwelveExactly =
     (branch : List ℕ) (flags : ℕ) (lent : Trays) →
-    (answer branch flags lent ≡ refusal 12 0) ↔ ((refused branch flags (lengthsOf lent) ≡ none) × Passes (settingOf flags) (decode branch))
+    (answer branch flags lent ≡ refusal tooManyIdentifiers 0) ↔ ((refused branch flags (lengthsOf lent) ≡ none) × Passes (settingOf flags) (decode branch))
 
 abbrev pub TwelveZeroes : Type 0
-TwelveZeroes = (branch : List ℕ) (flags : ℕ) (lent : Trays) (place : ℕ) → answer branch flags lent ≡ refusal 12 place → traysLeft branch flags lent ≡ laidOver zeroTrays lent
+TwelveZeroes = (branch : List ℕ) (flags : ℕ) (lent : Trays) (place : ℕ) → answer branch flags lent ≡ refusal tooManyIdentifiers place → traysLeft branch flags lent ≡ laidOver zeroTrays lent
 
 -- "each identifier once": at every state, those that steps have taken and those that wait are as many as there are
 abbrev pub QueueCounts : Type 0

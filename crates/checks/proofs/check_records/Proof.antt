@@ -3,12 +3,13 @@ use Prim.Native.Nat.{_≤_, _-_, _/_}
 use mathlib.Core.Path.{_≡_, sym, _∙_}
 use native.Mathlib.Omega.{arith}
 use lib.ListN.{length}
-use Rattle.checks.proofs.Reading.{Reading, reading-start, reading-refused, reading-next, reading-end}
+use Rattle.definition.specs.Limits.{recordLength, mostRecords}
+use Rattle.checks.proofs.Reading.{record-small, Reading, reading-start, reading-refused, reading-next, reading-end}
 use Rattle.checks.proofs.check_records.Statement.{statement}
 use Rattle.checks.proofs.check_records.Tie as tie
 
 abbrev Inv-loop : tie.InvT-loop
-Inv-loop branch count sizes₀ i₀ sizes i = (i ≤ count) × (count ≡ length branch / 6 → count ≤ 256 → Reading branch sizes i)
+Inv-loop branch count sizes₀ i₀ sizes i = (i ≤ count) × (count ≡ length branch / recordLength → count ≤ mostRecords → Reading branch sizes i)
 
 abbrev μ-loop : tie.MeasureT-loop
 μ-loop branch count sizes₀ i₀ sizes i = count - i
@@ -50,10 +51,10 @@ is-refusal-requires : tie.Need-is-refusal-requires Inv-loop μ-loop
 is-refusal-requires c κs = search needs
 
 returns-3 : tie.Need-returns-3 Inv-loop μ-loop
-returns-3 c = λ e h. reading-refused (c .before .before .before .before .before .before .before .before .before .loop .inv .1 e h) (omega (arith, c .before .before .before .before .before .before .before .before .loop-test .taken)) (c .before .before .before .before .before .before .before .if1 .left) _ _ _ (c .before .before .before .before .before .record-at .ensures .0) (c .before .before .before .expanded-size .ensures) (c .before .before .check-record .ensures .0) (sym (c .before .is-refusal .ensures) ∙ c .if3 .taken)
+returns-3 c = λ e h. reading-refused (c .before .before .before .before .before .before .before .before .before .loop .inv .1 e h) (omega (arith, c .before .before .before .before .before .before .before .before .loop-test .taken)) (c .before .before .before .before .before .before .before .if1 .left) _ _ _ (c .before .before .before .before .before .record-at .ensures .0) (c .before .before .before .expanded-size .ensures) (c .before .before .check-record .ensures) (sym (c .before .is-refusal .ensures) ∙ c .if3 .taken)
 
 cast-sizes : tie.Need-cast-sizes Inv-loop μ-loop
-cast-sizes c = omega (arith, c .before .before .check-record .ensures .1 (sym (c .before .is-refusal .ensures) ∙ c .if3 .left))
+cast-sizes c = omega (arith, record-small _ _ (c .before .before .before .expanded-size .result) _ (c .before .before .check-record .ensures) (sym (c .before .is-refusal .ensures) ∙ c .if3 .left))
 
 mul-sizes : tie.Need-mul-sizes Inv-loop μ-loop
 mul-sizes c = search needs
@@ -68,7 +69,7 @@ loop-less : tie.Need-loop-less Inv-loop μ-loop
 loop-less c = search needs
 
 loop-again : tie.Need-loop-again Inv-loop μ-loop
-loop-again c = (search needs, λ e h. reading-next (c .before .before .before .before .before .before .before .before .before .loop .inv .1 e h) (omega (arith, c .before .before .before .before .before .before .before .before .loop-test .taken)) (c .before .before .before .before .before .before .before .if1 .left) _ _ _ (c .before .before .before .before .before .record-at .ensures .0) (c .before .before .before .expanded-size .ensures) (c .before .before .check-record .ensures .0) (sym (c .before .is-refusal .ensures) ∙ c .if3 .left))
+loop-again c = (search needs, λ e h. reading-next (c .before .before .before .before .before .before .before .before .before .loop .inv .1 e h) (omega (arith, c .before .before .before .before .before .before .before .before .loop-test .taken)) (c .before .before .before .before .before .before .before .if1 .left) _ _ _ (c .before .before .before .before .before .record-at .ensures .0) (c .before .before .before .expanded-size .ensures) (c .before .before .check-record .ensures) (sym (c .before .is-refusal .ensures) ∙ c .if3 .left))
 
 accepted-requires-3 : tie.Need-accepted-requires-3 Inv-loop μ-loop
 accepted-requires-3 c κs = search needs

@@ -4,12 +4,13 @@ use mathlib.Core.Path.{_≡_}
 use mathlib.Core.Logic.{inl, inr, ⊎-elim}
 use native.Mathlib.Omega.{arith}
 use lib.ListN.{length}
+use Rattle.definition.specs.Limits.{recordLength, mostRecords}
 use Rattle.checks.proofs.Reading.{Counting, counting-start, counting-next, counting-end}
 use Rattle.checks.proofs.marked.Statement.{statement}
 use Rattle.checks.proofs.marked.Tie as tie
 
 abbrev Inv-loop : tie.InvT-loop
-Inv-loop branch count n₀ i₀ n i = (i ≤ count) × (n ≤ i) × (count ≡ length branch / 6 → count ≤ 256 → Counting branch n i)
+Inv-loop branch count n₀ i₀ n i = (i ≤ count) × (n ≤ i) × (count ≡ length branch / recordLength → count ≤ mostRecords → Counting branch n i)
 
 abbrev μ-loop : tie.MeasureT-loop
 μ-loop branch count n₀ i₀ n i = count - i

@@ -15,10 +15,9 @@ use Rattle.definition.specs.Formula.{Form, atom, non, and, or, imply, bi
 use Rattle.definition.specs.Tree.{Node, nodeAt, path}
 use Rattle.definition.specs.Contradiction.{atomOf, atomsOf, said, denied, opposed, areFormulasContradictory, areNodesContradictory, getContradictoryNodeIds}
 use Rattle.definition.specs.Countermodel.{saysAtom}
-use Rattle.definition.proofs.Lists.{true-false, and-left, and-right, not-true-false, Among, any-some, each-get, each-among, some-map, some-reverse, some-among, some-any}
+use Rattle.definition.proofs.Lists.{true-false, and-left, and-right, not-true-false, Among, any-some, each-get, each-among, some-map, some-reverse, some-among, some-any, find-none}
 use Rattle.definition.proofs.Records.{same-kind}
 use Rattle.definition.proofs.Nodes.{label}
-use Rattle.definition.proofs.Accepted.{find-none}
 use Rattle.definition.proofs.Forms.{WellFormed, form-at}
 use Rattle.definition.proofs.Marked.{else-none}
 use Rattle.definition.proofs.Completeness.On.{Says, On}

@@ -1,8 +1,8 @@
 use borrow.Author.Needs.{needs}
 use borrow.Author.Tests.{lt-ltb, le-ltb}
 use Rattle.checks.specs.Checked.{recordOf}
-use Rattle.checks.proofs.stray_mark.Statement.{statement}
-use Rattle.checks.proofs.stray_mark.Tie as tie
+use Rattle.checks.proofs.is_stray.Statement.{statement}
+use Rattle.checks.proofs.is_stray.Tie as tie
 
 returns : tie.Need-returns
 unfolding recordOf
@@ -15,5 +15,5 @@ returns-2 : tie.Need-returns-2
 unfolding recordOf
 returns-2 c = rw (le-ltb _ _ (c .before .if1 .left)) (c .non-zero-field .ensures)
 
-pub stray-mark-spec : {M : Type 1} → statement M
-stray-mark-spec = tie.close (tie.spec returns non-zero-field-requires returns-2)
+pub is-stray-spec : {M : Type 1} → statement M
+is-stray-spec = tie.close (tie.spec returns non-zero-field-requires returns-2)
