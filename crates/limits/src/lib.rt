@@ -1,4 +1,4 @@
-// The numbers of definition/specs/Limits and specs/Numbers under the same names, the lengths of specs/Arrays, and a type for each array that is lent.
+// The numbers of definition/specs/Limits and specs/RefusalNumbers under the same names, the lengths of specs/Arrays, and a type for each array that is lent.
 
 pub const RECORD_LENGTH: usize = 6;
 
