@@ -20,7 +20,7 @@ pub record Sized (t : Trays) : Type 0 where
   pub formulas : length (t .formulas) ≡ formulaTrayLength
   pub edges : length (t .edges) ≡ edgeTrayLength
 
-length-padded : (n : ℕ) (s : List ℕ) → length s ≤ n → length (padded n s) ≡ n
+pub length-padded : (n : ℕ) (s : List ℕ) → length s ≤ n → length (padded n s) ≡ n
 unfolding padded
 length-padded n s h = omega (arith, h, length-append s (replicate (n - length s) 0), length-replicate {A = ℕ} (n - length s) 0)
 
