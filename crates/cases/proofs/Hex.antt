@@ -13,6 +13,7 @@ use lib.Seq.{drop-cons, set-at, append-snoc}
 use borrow.Author.Tests.{lt-ltb, le-ltb, leb-true}
 use Rattle.definition.specs.Lists.{below, upFrom}
 use Rattle.definition.proofs.Lists.{all-below}
+use Rattle.definition.proofs.Issued.{length-from}
 use Rattle.cases.specs.Bytes.{hexDigit, hexAfter, hexByte, written, decoded}
 
 -- ---- k of eight digits are read, up to i
@@ -58,10 +59,6 @@ module _ {line : List ℕ} {from n k i : ℕ} (p : Hexing line from n k i) where
           }
 
 -- ---- n bytes are written into an array, up to i
-length-up : (n s : ℕ) → length (upFrom n s) ≡ n
-length-up zero s = refl
-length-up (suc n) s = ap suc (length-up n (suc s))
-
 map-snoc : (f : ℕ → ℕ) (n s : ℕ) → map f (upFrom (suc n) s) ≡ map f (upFrom n s) ++ (f (s + n) ∷ [])
 map-snoc f zero s = let z : s ≡ s + 0 = omega arith in ap (λ (j : ℕ). f j ∷ []) z
 map-snoc f (suc n) s = let z : suc s + n ≡ s + suc n = omega arith in ap (λ (l : List ℕ). f s ∷ l) (map-snoc f n (suc s) ∙ ap (λ (j : ℕ). map f (upFrom n (suc s)) ++ (f j ∷ [])) z)
@@ -69,7 +66,7 @@ map-snoc f (suc n) s = let z : suc s + n ≡ s + suc n = omega arith in ap (λ (
 module _ (line : List ℕ) (from : ℕ) where
   pub length-decoded : (n : ℕ) → length (decoded line from n) ≡ n
   unfolding decoded
-  length-decoded n = length-map (below n) (λ k. hexByte line (from + 2 * k)) ∙ length-up n 0
+  length-decoded n = length-map (below n) (λ k. hexByte line (from + 2 * k)) ∙ length-from n 0
 
   decoded-more : (n : ℕ) → decoded line from (suc n) ≡ decoded line from n ++ (hexByte line (from + 2 * n) ∷ [])
   unfolding decoded

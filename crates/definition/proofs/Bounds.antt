@@ -10,7 +10,7 @@ use borrow.Author.Tests.{leb-false, ltb-false}
 use lib.ListN.{length, length-append}
 use Rattle.definition.specs.Limits.{mostRecords, mostIdentifiers, worldLimit, mostFormulas}
 use Rattle.definition.specs.Lists.{Each, empty, filter, elem}
-use Rattle.definition.specs.Records.{Rec, nobody, numberOf, marks}
+use Rattle.definition.specs.Records.{Rec, nobody, marks}
 use Rattle.definition.specs.Setting.{Setting}
 use Rattle.definition.specs.Graph.{Graph, edge, emptyGraph, initializeGraphIfNeeded, fork}
 use Rattle.definition.specs.Tree.{Node, newNode, nodeAt, leaves, path}
@@ -20,6 +20,7 @@ use Rattle.definition.specs.Modality.{Necessity, unvisited, visiting}
 use Rattle.definition.specs.Queue.{Popped, pop}
 use Rattle.definition.specs.Contradiction.{pairs}
 use Rattle.definition.specs.Run.{State, LogicRuleResult, applyHere, applyPossibility, applyNecessity, applyRule, apply, appended, checkedForContradictions, checkForContradictions, stepBy, step, ended, full, stops, steps, run, branchNodes, rooted, begun, start}
+use Rattle.definition.specs.Fits.{Number, RecordFits}
 use Rattle.definition.proofs.Lists.{or-left, or-right, each-map, each-append, each-of-map}
 use Rattle.definition.proofs.Nodes.{Label, label, ext-result, mark-keeps, length-marks}
 use Rattle.definition.proofs.Every.{Every, every-append, every-result}
@@ -31,7 +32,7 @@ use Rattle.definition.proofs.Priest.{Fit, made-two, made-fit, expansion
 use Rattle.definition.proofs.Edges.{init-one, init-less, init-worlds, fork-worlds, Squared, squared-init, squared-fork, squared-empty}
 use Rattle.definition.proofs.Given.{unvisited-each, after-each}
 use Rattle.definition.proofs.Made.{Gifts, reapply-each, after-each-node}
-use Rattle.definition.proofs.Fields.{Number, more-number}
+use Rattle.definition.proofs.Fields.{more-number}
 use Rattle.definition.proofs.Sound.{marks-known, rooted-every}
 
 -- a label with a world below b, a formula below m, a spawner below n
@@ -44,15 +45,21 @@ more-label : (b m n b′ m′ n′ : ℕ) → b ≤ b′ → m ≤ m′ → n �
 more-label b m n b′ m′ n′ p q r l k =
     record { world = omega (arith, k .world); formula = more-number m m′ (l .formula) q (k .formula); spawner = more-number n n′ (l .spawner) r (k .spawner) }
 
--- a record's numbers fit their fields
-pub record RecordFits (r : Rec) : Type 0 where
-  pub kind : numberOf (r .kind) ≤ 8
-  pub mark : r .mark ≤ 1
-  pub left : r .left ≤ 65535
-  pub right : r .right ≤ 65535
-
 abbrev NecessityFits : ℕ → ℕ → Necessity → Type 0
 NecessityFits m n k = (k .formula < m) × (k .spawner < n)
+
+-- a rule's result has the formulas that its expansion makes
+pub rule-made : (F : Setting) (s : State) (x : ℕ) (more : List Rec) (r : Rule ℕ) → applyRule F s x more r .formulas ≡ more
+unfolding applyRule applyHere applyPossibility applyNecessity
+rule-made F s x more nothing = refl
+rule-made F s x more (down fs) = refl
+rule-made F s x more (split fs gs) = refl
+rule-made F s x more (asPossible f) = refl
+rule-made F s x more (asNecessary f) = refl
+
+pub apply-made : (F : Setting) (s : State) (x : ℕ) → apply F s x .formulas ≡ expansion (s .formulas) (nodeAt (s .nodes) x .formula) .made
+unfolding apply
+apply-made F s x = rule-made F s x _ _
 
 -- P holds of every record of the branch, and of every record whose numbers fit
 module _ (P : Rec → Type 0) (ok : (r : Rec) → RecordFits r → P r) where
@@ -184,19 +191,6 @@ module _ (P : Rec → Type 0) (ok : (r : Rec) → RecordFits r → P r) where
   few-formulas : (F : Setting) (k : ℕ) (s : State) → Bounded F k s → full s ≡ false → length (s .formulas) ≤ k + (mostIdentifiers + mostIdentifiers)
   unfolding full Counted
   few-formulas F k s h e = omega (arith, h .sizes .formulas, h .counted, ltb-false mostIdentifiers (length (s .nodes)) e)
-
-  rule-made : (F : Setting) (s : State) (x : ℕ) (more : List Rec) (r : Rule ℕ) → applyRule F s x more r .formulas ≡ more
-  unfolding applyRule applyHere applyPossibility applyNecessity
-  rule-made F s x more nothing = refl
-  rule-made F s x more (down fs) = refl
-  rule-made F s x more (split fs gs) = refl
-  rule-made F s x more (asPossible f) = refl
-  rule-made F s x more (asNecessary f) = refl
-
-  -- a rule's result has the formulas that its expansion makes
-  pub apply-made : (F : Setting) (s : State) (x : ℕ) → apply F s x .formulas ≡ expansion (s .formulas) (nodeAt (s .nodes) x .formula) .made
-  unfolding apply
-  apply-made F s x = rule-made F s x _ _
 
   -- all but the counts, which the step as a whole has
   sizes-appended : (F : Setting) (k : ℕ) (s : State) (p : Popped) → k ≤ mostRecords → Bounded F k s → s .graph .worlds < worldLimit → full s ≡ false → p .node < length (s .nodes) →

@@ -11,19 +11,20 @@ use lib.ListN.{length, getD}
 use Rattle.definition.specs.Limits.{mostIdentifiers}
 use Rattle.definition.specs.RefusalNumbers.{tooManyIdentifiers}
 use Rattle.definition.specs.Lists.{Each, below}
-use Rattle.definition.specs.Records.{Rec, Unknown, numberOf, recordAt, decode, made, recAt}
+use Rattle.definition.specs.Records.{Rec, Unknown, nobody, numberOf, recordAt, decode, made, recAt}
 use Rattle.definition.specs.Setting.{Setting, settingOf}
 use Rattle.definition.specs.Checks.{Lengths, LongEnough, Check, refused}
 use Rattle.definition.specs.Run.{State, full, stops, run, start, Passes, final}
 use Rattle.definition.specs.Trays.{Trays, rowNumber, traysOf, zeroTrays, laidOver}
 use Rattle.definition.specs.Call.{Outcome, Refused, Full, Ended, outcomeOfRun, outcomeBy, outcome, refusal, answerOf, answer, traysAfter, traysLeft, lengthsOf}
+use Rattle.definition.specs.Fits.{RecordFits, Sized, Kept}
 use Rattle.definition.proofs.Lists.{each-of, each-both, each-any, each-of-map}
 use Rattle.definition.proofs.Accepted.{Accepted, accepted, long-alike, refused-other}
 use Rattle.definition.proofs.Exact.{full-exactly}
 use Rattle.definition.proofs.Forms.{WellFormed}
-use Rattle.definition.proofs.Bounds.{RecordFits, Bounded, run-bounded, bounded-formulas}
+use Rattle.definition.proofs.Bounds.{Bounded, run-bounded, bounded-formulas}
 use Rattle.definition.proofs.Fields.{Numbered, run-numbered}
-use Rattle.definition.proofs.TraysKept.{Sized, trays-sized, zero-sized, Kept, same-kept, laid-kept}
+use Rattle.definition.proofs.TraysKept.{trays-sized, zero-sized, same-kept, laid-kept}
 use Rattle.definition.proofs.Sound.{not-full}
 
 -- longer trays change no outcome
@@ -62,10 +63,10 @@ pub records-fit : (branch : List ℕ) (flags : ℕ) (lent : Lengths) → Each (�
 unfolding decode recordAt
 records-fit branch flags lent h a =
     let low = byte branch h in
-    each-both (λ (r : Rec) (p : (numberOf (r .kind) ≤ 8) × (r .mark ≤ 1)) (q : (r .left ≤ 65535) × (r .right ≤ 65535)). record { kind = p .0; mark = p .1; left = q .0; right = q .1 }) (decode branch)
+    each-both (λ (r : Rec) (p : (numberOf (r .kind) ≤ 8) × (r .mark ≤ 1)) (q : (r .left ≤ nobody) × (r .right ≤ nobody)). record { kind = p .0; mark = p .1; left = q .0; right = q .1 }) (decode branch)
     (each-at (λ (r : Rec). (numberOf (r .kind) ≤ 8) × (r .mark ≤ 1)) (decode branch) (λ i l. (a .records i l .kind, a .records i l .mark)))
-    (each-of-map (λ (r : Rec). (r .left ≤ 65535) × (r .right ≤ 65535)) (recordAt branch) (below (length branch / 6))
-    (each-any (λ i. (recordAt branch i .left ≤ 65535) × (recordAt branch i .right ≤ 65535))
+    (each-of-map (λ (r : Rec). (r .left ≤ nobody) × (r .right ≤ nobody)) (recordAt branch) (below (length branch / 6))
+    (each-any (λ i. (recordAt branch i .left ≤ nobody) × (recordAt branch i .right ≤ nobody))
     (λ i. (omega (arith, low (6 * i + 2), low (6 * i + 3)), omega (arith, low (6 * i + 4), low (6 * i + 5)))) (below (length branch / 6))))
 
 pub row-low : (row : List Bool) → rowNumber row < 2 ^ length row

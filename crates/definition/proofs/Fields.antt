@@ -18,6 +18,7 @@ use Rattle.definition.specs.Subtree.{Subtree, Targeted, flat, numbered, 
 use Rattle.definition.specs.Queue.{Popped, pop}
 use Rattle.definition.specs.Contradiction.{areNodesContradictory, Pair, pair, getContradictoryNodeIds, mark, markAll, pairs}
 use Rattle.definition.specs.Run.{State, apply, appended, checkedForContradictions, checkForContradictions, stepBy, step, steps, branchNodes, rooted, begun, start}
+use Rattle.definition.specs.Fits.{Number}
 use Rattle.definition.proofs.Lists.{either, cond-both, alike, each-map, each-of-map, each-any, each-reverse}
 use Rattle.definition.proofs.Nodes.{change-other, change-same, node-append, Stable, chain-keeps, leaf-keeps, length-marks}
 use Rattle.definition.proofs.Every.{node-after}
@@ -25,10 +26,6 @@ use Rattle.definition.proofs.Made.{apply-each}
 use Rattle.definition.proofs.Count.{checked-both, checked-length}
 use Rattle.definition.proofs.Treed.{Treed, Bare, spots, in-range, parent-in, path-distinct, leaves-bare}
 use Rattle.definition.proofs.Growing.{step-keeps, steps-keep, begun-treed, start-treed, between-keeps}
-
--- none, or below n
-abbrev pub Number : ℕ → ℕ → Type 0
-Number n x = (x ≡ nobody) ⊎ (x < n)
 
 pub more-number : (m n x : ℕ) → m ≤ n → Number m x → Number n x
 more-number m n x h (inl e) = inl e

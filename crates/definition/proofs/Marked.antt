@@ -19,13 +19,14 @@ use Rattle.definition.specs.Queue.{Popped, pop}
 use Rattle.definition.specs.Run.{State, apply, checkedForContradictions, checkForContradictions, appended, stepBy, step, stops, begun, start}
 use Rattle.definition.proofs.Lists.{true-false, either, alike, Some, some-append-left, some-append-right, some-each, some-pick, each-map, each-both, each-of-map, each-reverse, find-each, among-some, some-any, any-none}
 use Rattle.definition.proofs.Nodes.{blank, change-other, change-same, mark-keeps, length-marks}
-use Rattle.definition.proofs.Treed.{Spot, spot, spots, placed, childAt, In, Treed, Bare, in-range, in-out, root-in, leaves-bare, leaves-more, path-distinct}
+use Rattle.definition.proofs.Treed.{Spot, spot, spots, placed, childAt, In, Treed, Bare, in-range, in-out, leaves-bare, leaves-more, path-distinct}
 use Rattle.definition.proofs.Linking.{bare-room}
 use Rattle.definition.proofs.Growing.{between-keeps, marks-keep, begun-treed}
 use Rattle.definition.proofs.Fields.{begun-unmarked}
 use Rattle.definition.proofs.Count.{checked-length}
 use Rattle.definition.proofs.Ready.{Fit, ready}
 use Rattle.definition.proofs.Partners.{earlier, partner, pairOf, climbing, path-below, path-root, pair-below, pair-root, each-tail, marks-same, Stem, Grown, appended-grown, appended-same}
+use Rattle.definition.proofs.Below.{path-there}
 use Rattle.definition.proofs.Takers.{closed, OpenLeaf, Hung, bare-before, between-hung}
 
 -- every leaf is listed
@@ -84,9 +85,6 @@ module _ (rs : List Rec) (t : List Node) (r : Treed t) where
       (λ d. let k = up p d in record { there = k .there; by = k .by; on = rw (path-below t r x i) (inr (k .on)) })
       (else-some x (partner rs t x) _ p (sym (pair-below t r rs x i) ∙ e)))
 
-  path-in : (x : ℕ) → In (spots t) x → Each (In (spots t)) (path t x)
-  path-in = climbing t r (λ x. Each (In (spots t)) (path t x)) (rw (path-root t r) (root-in (spots t) r, tt)) (λ x i j up. rw (path-below t r x i) (i, up))
-
   -- where there is no pair, no node of the path has a partner
   pub no-partner : (x : ℕ) → In (spots t) x → pairOf rs t x ≡ none → Each (λ z. partner rs t z ≡ none) (path t x)
   no-partner =
@@ -126,7 +124,7 @@ module _ (rs : List Rec) (t : List Node) (r : Treed t) (few : length t ≤ nobod
       alone x i e = ⊎-elim (λ q. rw q) (λ q. let z : _≡_ {A = ℕ} 0 1 = cc in absurd (omega arith)) (c .right x i)
 
       go : (o : Option Pair) → pairOf rs t l ≡ o → Done t o → any marked (path t l) ≡ isPair o
-      go none e d = any-none marked (path t l) (each-both alone (path t l) (path-in rs t r l (b .0)) (no-partner rs t r l (b .0) e))
+      go none e d = any-none marked (path t l) (each-both alone (path t l) (path-there t r l (b .0)) (no-partner rs t r l (b .0) e))
       go (some p) e d =
           let k = pair-partner rs t r l (b .0) p e in
           some-any marked (path t l) (among-some (λ x. marked x ≡ true) (p .later) (path t l) (k .on) (rw (d, ne-eqb (p .earlier) nobody (λ q. omega (arith, few, q, partner-known rs t r (p .later) (p .earlier) (k .there) (k .by))))))

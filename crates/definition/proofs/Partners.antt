@@ -16,13 +16,14 @@ use Rattle.definition.specs.Subtree.{Subtree, Targeted, flat, numbered, 
 use Rattle.definition.specs.Contradiction.{atomOf, atomsOf, said, denied, areFormulasContradictory, areNodesContradictory, Pair, pair, getContradictoryNodeIds, markAll, pairs}
 use Rattle.definition.specs.Queue.{Popped, pop}
 use Rattle.definition.specs.Run.{State, apply, checkedForContradictions, checkForContradictions, appended, stepBy, step, stops}
+use Rattle.definition.specs.Fits.{Number}
 use Rattle.definition.proofs.Lists.{either, alike, each-map, each-any, each-left, each-right, each-reverse}
 use Rattle.definition.proofs.Records.{same-kind}
 use Rattle.definition.proofs.Nodes.{change-other, change-keeps, length-leaf, node-append, Label, label, mark-keeps, length-marks, ext-append, ext-leaf, ext-subtree}
 use Rattle.definition.proofs.Issued.{Issued, ids-numbered, issued-le, issued-front, apply-issued}
 use Rattle.definition.proofs.Count.{checked-both}
 use Rattle.definition.proofs.Forms.{WellFormed}
-use Rattle.definition.proofs.Fields.{Number, parent-number}
+use Rattle.definition.proofs.Fields.{parent-number}
 use Rattle.definition.proofs.Treed.{spots, placed, In, Treed, in-range, in-out, root-in, path-more, path-distinct}
 use Rattle.definition.proofs.Growing.{between, between-keeps}
 use Rattle.definition.proofs.Ready.{Fit, ready}

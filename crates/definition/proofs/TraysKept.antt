@@ -12,15 +12,10 @@ use Rattle.definition.specs.Checks.{LongEnough}
 use Rattle.definition.specs.Tree.{Node}
 use Rattle.definition.specs.Run.{State}
 use Rattle.definition.specs.Trays.{Trays, nodeBytes, recordBytes, rowNumber, padded, traysOf, zeroTrays, over, laidOver}
+use Rattle.definition.specs.Fits.{Sized, Beyond, Kept}
 use Rattle.definition.specs.Call.{lengthsOf}
 
--- the three lengths
-pub record Sized (t : Trays) : Type 0 where
-  pub nodes : length (t .nodes) ≡ nodeTrayLength
-  pub formulas : length (t .formulas) ≡ formulaTrayLength
-  pub edges : length (t .edges) ≡ edgeTrayLength
-
-length-padded : (n : ℕ) (s : List ℕ) → length s ≤ n → length (padded n s) ≡ n
+pub length-padded : (n : ℕ) (s : List ℕ) → length s ≤ n → length (padded n s) ≡ n
 unfolding padded
 length-padded n s h = omega (arith, h, length-append s (replicate (n - length s) 0), length-replicate {A = ℕ} (n - length s) 0)
 
@@ -49,16 +44,6 @@ trays-sized s a b c =
 pub zero-sized : Sized zeroTrays
 unfolding zeroTrays
 zero-sized = record { nodes = length-replicate {A = ℕ} nodeTrayLength 0; formulas = length-replicate {A = ℕ} formulaTrayLength 0; edges = length-replicate {A = ℕ} edgeTrayLength 0 }
-
--- a tray keeps its length, and what lies beyond the first n numbers
-pub record Beyond (n : ℕ) (before after : List ℕ) : Type 0 where
-  pub long : length after ≡ length before
-  pub rest : drop n after ≡ drop n before
-
-pub record Kept (before after : Trays) : Type 0 where
-  pub nodes : Beyond nodeTrayLength (before .nodes) (after .nodes)
-  pub formulas : Beyond formulaTrayLength (before .formulas) (after .formulas)
-  pub edges : Beyond edgeTrayLength (before .edges) (after .edges)
 
 over-kept : (n : ℕ) (written lent : List ℕ) → length written ≡ n → n ≤ length lent → Beyond n lent (over written lent)
 unfolding over

@@ -11,6 +11,7 @@ use lib.ListN.{length, List·getD-eq-default}
 use Rattle.definition.specs.Lists.{Each, Distinct}
 use Rattle.definition.specs.Records.{nobody, isNobody}
 use Rattle.definition.specs.Tree.{Place, Root, Left, Middle, Right, Unplaced, placeNumber, Children, Node, childless, nodeAt, isLeaf, only, leavesBelow, upward, leaves, path}
+unfoldable pub use Rattle.definition.specs.Tree.{childAt}
 use Rattle.definition.proofs.Lists.{true-false, either, alike, each-map, each-append}
 use Rattle.definition.proofs.Nodes.{blank}
 use Rattle.definition.proofs.Issued.{Apart, distinct-append, apart-by, pigeonhole}
@@ -36,13 +37,6 @@ placed Left = true
 placed Middle = true
 placed Right = true
 placed Unplaced = false
-
-unfoldable pub childAt : Place → Children → ℕ
-childAt Root c = nobody
-childAt Left c = c .left
-childAt Middle c = c .middle
-childAt Right c = c .right
-childAt Unplaced c = nobody
 
 abbrev pub In : (ℕ → Spot) → ℕ → Type 0
 In g x = placed (g x .place) ≡ true

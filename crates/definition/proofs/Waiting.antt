@@ -15,11 +15,11 @@ use Rattle.definition.specs.Contradiction.{pairs}
 use Rattle.definition.specs.Subtree.{Subtree, Targeted, flat, turned, numbered, copied, appendSubtreeOnLeaf, pushSubtree, appendCopies, appendOn, takes, appendSubtree, appendLogicRuleResult}
 use Rattle.definition.specs.Queue.{Popped, priorityOf, getNodePriority}
 use Rattle.definition.specs.Run.{State, apply, checkedForContradictions, checkForContradictions, appended, stops}
+use Rattle.definition.specs.Fits.{Number}
 use Rattle.definition.proofs.Lists.{either, each-map, each-any}
 use Rattle.definition.proofs.Nodes.{mark-keeps}
 use Rattle.definition.proofs.Count.{checked-both}
 use Rattle.definition.proofs.Forms.{WellFormed}
-use Rattle.definition.proofs.Fields.{Number}
 use Rattle.definition.proofs.Ready.{Fit}
 use Rattle.definition.proofs.Partners.{rec-append, link-same, Stem, appended-grown}
 

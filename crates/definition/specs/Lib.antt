@@ -15,6 +15,7 @@ pub mod Queue
 pub mod Contradiction
 pub mod Run
 pub mod Trays
+pub mod Fits
 pub mod Call
 pub mod Claim
 pub mod Cases

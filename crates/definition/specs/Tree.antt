@@ -54,6 +54,14 @@ setChild Middle x c = record { left = c .left; middle = x; right = c .right }
 setChild Right x c = record { left = c .left; middle = c .middle; right = x }
 setChild Unplaced x c = c
 
+-- the child at a place
+unfoldable pub childAt : Place → Children → ℕ
+childAt Root c = nobody
+childAt Left c = c .left
+childAt Middle c = c .middle
+childAt Right c = c .right
+childAt Unplaced c = nobody
+
 -- the node y with the child x
 abbrev pub withChild : Place → ℕ → Node → Node
 withChild place x y =

@@ -16,15 +16,16 @@ use Rattle.definition.specs.Setting.{Setting}
 use Rattle.definition.specs.Records.{Rec}
 use Rattle.definition.specs.Graph.{Graph}
 use Rattle.definition.specs.Tree.{Node, nodeAt, leaves}
-use Rattle.definition.specs.Rules.{Rule, nothing, down, split, asPossible, asNecessary, expansion}
+use Rattle.definition.specs.Rules.{expansion}
 use Rattle.definition.specs.Modality.{Necessity}
 use Rattle.definition.specs.Queue as D
 use Rattle.definition.specs.Run
-use Rattle.definition.specs.Run.{State, applyHere, applyPossibility, applyNecessity, applyRule, apply, checkedForContradictions, checkForContradictions, appended, stepBy, step, ended, stops}
+use Rattle.definition.specs.Run.{State, applyRule, apply, checkedForContradictions, checkForContradictions, appended, stepBy, step, ended, stops}
 use Rattle.definition.proofs.Lists.{true-false, or-left, or-right, each-map}
 use Rattle.definition.proofs.Count.{Counted, checked-both, pop-some, Out, pop-out, appended-counted}
 use Rattle.definition.proofs.Waiting.{queued, classes-appended, classes-checked}
 use Rattle.definition.proofs.Priest.{made-two}
+use Rattle.definition.proofs.Bounds.{rule-made}
 use Rattle.definition.proofs.Ready.{Fit, Ready, ready}
 use Rattle.definition.proofs.Fresh.{Since, Watch, since-step}
 use Rattle.definition.proofs.Spawned.{Rooted, AllRooted}
@@ -81,14 +82,6 @@ taken-of (some t) x n e =
     let y : ProofTreeNodeID = record { 0 = t .node } in
     let i : y ≡ x = cc in
     (t .others, ap (λ (z : ProofTreeNodeID). some (record { node = z .0; others = t .others })) i, cc)
-
-rule-made : (F : Setting) (s : State) (x : ℕ) (recs : List Rec) (r : Rule ℕ) → applyRule F s x recs r .formulas ≡ recs
-unfolding applyRule applyHere applyPossibility applyNecessity
-rule-made F s x recs nothing = refl
-rule-made F s x recs (down fs) = refl
-rule-made F s x recs (split fs gs) = refl
-rule-made F s x recs (asPossible f) = refl
-rule-made F s x recs (asNecessary f) = refl
 
 -- what a check leaves alone
 record Alike (s z : State) : Type 0 where

@@ -12,13 +12,14 @@ use borrow.Author.Tests.{leb-true, ltb-true}
 use lib.ListN.{length}
 use Rattle.definition.specs.Limits.{mostIdentifiers, worldLimit, graphWidth}
 use Rattle.definition.specs.Lists.{Each, empty, below}
-use Rattle.definition.specs.Records.{Rec, decode, nobody}
+use Rattle.definition.specs.Records.{Rec, decode}
 use Rattle.definition.specs.Setting.{Setting, settingOf}
 use Rattle.definition.specs.Checks.{Lengths}
-use Rattle.definition.specs.Tree.{Node, Place, Left, Middle, Right, Root, Unplaced, childless, nodeAt}
+use Rattle.definition.specs.Tree.{Node, Place, Left, Middle, Right, Root, Unplaced, childless, isLeaf, nodeAt, childAt}
 use Rattle.definition.specs.Graph.{initializeGraphIfNeeded}
 use Rattle.definition.specs.Run.{State, ended, full, stops, steps, unlimitedRun, start, final}
 use Rattle.definition.specs.Trays.{rowNumber, traysOf}
+use Rattle.definition.specs.Fits.{RecordFits, Sized}
 use Rattle.definition.specs.Claim.{Demand3}
 use Rattle.definition.specs.Completeness.{Complete, ExactInTime}
 use Rattle.definition.proofs.Lists.{or-cases, each-map}
@@ -27,17 +28,17 @@ use Rattle.definition.proofs.Priest.{rule-is-priest}
 use Rattle.definition.proofs.Edges.{init-one, init-less}
 use Rattle.definition.proofs.Exact
 use Rattle.definition.proofs.Treed
-use Rattle.definition.proofs.Treed.{Treed, placed, childAt}
+use Rattle.definition.proofs.Treed.{Treed, placed}
+use Rattle.definition.proofs.Linking.{bare-room}
 use Rattle.definition.proofs.Growing.{reached-treed, reached-between}
 use Rattle.definition.proofs.Accepted.{Accepted, accepted}
 use Rattle.definition.proofs.Bounds
 use Rattle.definition.proofs.Fields
-use Rattle.definition.proofs.TraysKept
 use Rattle.definition.proofs.Calls
 use Rattle.definition.proofs.Sound
 use Rattle.definition.proofs.Completeness.Whole
 use Rattle.definition.proofs.Completeness.Plain
-use Rattle.soundness.specs.Claims.{RulesArePriests, Stops, StaysStopped, FullExactly, NotFullExactly, TwelveExactly, TwelveZeroes, QueueCounts, StepsGrow, PartsGrow, childOf, IsTree, TreesOfRun, TreesOfStep, RecordFits, Fits, RunsFit, Beyond, TraysKeep, TraysSized, RefusalsWriteNothing, Decides, HasAssignment}
+use Rattle.soundness.specs.Claims.{RulesArePriests, Stops, StaysStopped, FullExactly, NotFullExactly, TwelveExactly, TwelveZeroes, QueueCounts, StepsGrow, PartsGrow, IsTree, TreesOfRun, TreesOfStep, Fits, RunsFit, TraysKeep, TraysSized, RefusalsWriteNothing, Decides, HasAssignment}
 
 pub demand-3 : Demand3
 demand-3 = Sound.demand-3
@@ -102,14 +103,6 @@ steps-grow = Exact.step-grows
 pub parts-grow : PartsGrow
 parts-grow before after t q = (ext-result before t q .longer, Exact.part-grows before after t q)
 
-child-at : (t : List Node) (y : ℕ) (p : Place) → childOf t y p ≡ childAt p (nodeAt t y .children)
-unfolding childOf childAt
-child-at t y Root = refl
-child-at t y Left = refl
-child-at t y Middle = refl
-child-at t y Right = refl
-child-at t y Unplaced = refl
-
 placed-in : (p : Place) → p ≢ Unplaced → placed p ≡ true
 unfolding placed
 placed-in Root h = refl
@@ -122,25 +115,18 @@ placed-out : placed Unplaced ≡ false
 unfolding placed
 placed-out = refl
 
-child-nowhere : (p : Place) → childAt p childless ≡ nobody
-unfolding childAt
-child-nowhere Root = refl
-child-nowhere Left = refl
-child-nowhere Middle = refl
-child-nowhere Right = refl
-child-nowhere Unplaced = refl
-
 is-tree : (t : List Node) → Treed t → IsTree t
+unfolding isLeaf
 is-tree t r =
     record {
       root = (r .root, r .orphan);
-      down = λ y p h. let c = r .below y p (λ e. h (child-at t y p ∙ e)) in rw (child-at t y p) (c .parent, c .place);
-      up = λ x h n. child-at t _ (nodeAt t x .place) ∙ r .above x (placed-in (nodeAt t x .place) h) n .child;
+      down = λ y p h. let c = r .below y p h in (c .parent, c .place);
+      up = λ x h n. r .above x (placed-in (nodeAt t x .place) h) n .child;
       depth = r .depth;
       deeper = λ x h n. r .above x (placed-in (nodeAt t x .place) h) n .deeper;
       loose = λ x h.
           let k = r .loose x (rw h placed-out) in
-          (ap (λ (s : Treed.Spot). s .parent) k, λ p. child-at t x p ∙ ap (λ (s : Treed.Spot). childAt p (s .children)) k ∙ child-nowhere p);
+          (ap (λ (s : Treed.Spot). s .parent) k, λ p. ap (λ (s : Treed.Spot). childAt p (s .children)) k ∙ bare-room p childless refl);
       distinct = Treed.leaves-distinct t r;
       few = Treed.leaves-few t r;
       unbounded = Treed.treed-unbounded t r;
@@ -163,15 +149,15 @@ module _ (branch : List ℕ) (flags : ℕ) (lent : Lengths) (a : Accepted branch
   abbrev z : State
   z = final (settingOf flags) (decode branch)
 
-  final-fits : Each Bounds.RecordFits rs → Fits z
+  final-fits : Each RecordFits rs → Fits z
   final-fits fit =
-      let h = Calls.final-bounded branch flags lent a e Bounds.RecordFits (λ r k. k) fit in
+      let h = Calls.final-bounded branch flags lent a e RecordFits (λ r k. k) fit in
       let b = h .sizes in
       let t = Calls.final-numbered branch flags lent a e in
       record {
         identifiers = Sound.not-full z e;
-        steps = Bounds.bounded-steps Bounds.RecordFits (λ r k. k) F (length rs) z h e;
-        formulas = Bounds.bounded-formulas Bounds.RecordFits (λ r k. k) F (length rs) z h (a .few) e;
+        steps = Bounds.bounded-steps RecordFits (λ r k. k) F (length rs) z h e;
+        formulas = Bounds.bounded-formulas RecordFits (λ r k. k) F (length rs) z h (a .few) e;
         worlds = b .worlds;
         nodes = λ x l.
             let k = b .labels x l in
@@ -182,7 +168,7 @@ module _ (branch : List ℕ) (flags : ℕ) (lent : Lengths) (a : Accepted branch
               spawner = k .spawner;
               contrarian = t .marked x;
             };
-        records = each-map (λ (r : Rec) (k : Bounds.RecordFits r). record { kind = k .kind; mark = k .mark; left = k .left; right = k .right }) (z .formulas) (b .records);
+        records = b .records;
         rows = each-map (λ (row : List Bool) (k : length row ≡ z .graph .worlds). row-fits row (omega (arith, k, b .worlds))) (z .graph .rows) (b .squared .each);
       }
     where
@@ -198,19 +184,13 @@ runs-fit branch flags lent s bytes d =
     let k = Calls.ended-of branch flags lent s d in
     subst Fits (k .2) (final-fits branch flags lent (k .0) (k .1) (Calls.records-fit branch flags lent bytes (k .0)))
 
-beyond : (n : ℕ) (before after : List ℕ) → TraysKept.Beyond n before after → Beyond n before after
-beyond n before after h = record { long = h .long; rest = h .rest }
-
 pub trays-keep : TraysKeep
-trays-keep branch flags lent =
-    let k = Calls.trays-kept branch flags lent in
-    (beyond _ _ _ (k .nodes), beyond _ _ _ (k .formulas), beyond _ _ _ (k .edges))
+trays-keep = Calls.trays-kept
 
 pub trays-sized : TraysSized
 trays-sized branch flags lent s d =
     let k = Calls.ended-of branch flags lent s d in
-    let y = subst (λ (v : State). TraysKept.Sized (traysOf v)) (k .2) (Calls.final-sized branch flags lent (k .0) (k .1)) in
-    (y .nodes, y .formulas, y .edges)
+    subst (λ (v : State). Sized (traysOf v)) (k .2) (Calls.final-sized branch flags lent (k .0) (k .1))
 
 pub refusals-write-nothing : RefusalsWriteNothing
 refusals-write-nothing = Calls.refused-keeps

@@ -6,20 +6,21 @@ use mathlib.Core.List.{List, _++_}
 use mathlib.Core.Option.{none}
 use mathlib.Core.Logic.{_⊎_, _↔_, _≢_}
 use Prim.Native.Nat.{ℕ, suc, _<_, _≤_, _+_, _^_}
-use lib.ListN.{length, drop}
-use Rattle.definition.specs.Limits.{mostIdentifiers, worldLimit, graphWidth, mostFormulas, nodeTrayLength, formulaTrayLength, edgeTrayLength}
+use lib.ListN.{length}
+use Rattle.definition.specs.Limits.{mostIdentifiers, worldLimit, graphWidth, mostFormulas}
 use Rattle.definition.specs.RefusalNumbers.{tooManyIdentifiers}
 use Rattle.definition.specs.Lists.{Each, Distinct, empty}
-use Rattle.definition.specs.Records.{Rec, nobody, isNobody, decode, marks, numberOf}
+use Rattle.definition.specs.Records.{Rec, nobody, isNobody, decode, marks}
 use Rattle.definition.specs.Formula.{formAt}
 use Rattle.definition.specs.Setting.{Setting, settingOf}
 use Rattle.definition.specs.Checks.{Lengths, LongEnough, Check, refused}
 use Rattle.definition.specs.Models.{Model, Has}
-use Rattle.definition.specs.Tree.{Node, Place, Left, Middle, Right, Root, Unplaced, nodeAt, leavesBelow, upward, leaves, path}
+use Rattle.definition.specs.Tree.{Node, Place, Root, Unplaced, nodeAt, childAt, leavesBelow, upward, leaves, path}
 use Rattle.definition.specs.Rules.{expansion, writtenRule, priest}
 use Rattle.definition.specs.Subtree.{Targeted, appendLogicRuleResult}
 use Rattle.definition.specs.Run.{State, apply, step, full, run, unlimitedRun, start, Passes, final}
 use Rattle.definition.specs.Trays.{Trays, rowNumber, traysOf, zeroTrays, laidOver}
+use Rattle.definition.specs.Fits.{Number, RecordFits, Sized, Kept}
 use Rattle.definition.specs.Call.{Refused, Ended, outcome, Verdict, verdict, refusal, answer, traysLeft, lengthsOf}
 use Rattle.definition.specs.Claim.{Proved, Reaching, Satisfied}
 use Rattle.definition.specs.Completeness.{ChecksContradictions}
@@ -72,13 +73,8 @@ PartsGrow =
     (before after : List Targeted) (t : List Node) (q : List ℕ) →
     (length t ≤ length (appendLogicRuleResult t q before .nodes)) × (length (appendLogicRuleResult t q before .nodes) ≤ length (appendLogicRuleResult t q (before ++ after) .nodes))
 
--- the child at a place
-unfoldable pub childOf : List Node → ℕ → Place → ℕ
-childOf t y Root = nobody
-childOf t y Left = nodeAt t y .children .left
-childOf t y Middle = nodeAt t y .children .middle
-childOf t y Right = nodeAt t y .children .right
-childOf t y Unplaced = nobody
+abbrev pub childOf : List Node → ℕ → Place → ℕ
+childOf t y p = childAt p (nodeAt t y .children)
 
 -- the tree is a tree: node 0 is its root, parents and children agree, each node is one deeper than its parent, and a node that was never placed
 -- has no parent and no child; its leaves are distinct and no more than its nodes, and no bound of depth decides
@@ -103,10 +99,6 @@ TreesOfStep =
     (x : ℕ) (q : List ℕ) (before after : List Targeted) → apply F s x .subtrees ≡ before ++ after →
     length (appendLogicRuleResult (s .nodes ++ apply F s x .nodes) q before .nodes) ≤ nobody → IsTree (appendLogicRuleResult (s .nodes ++ apply F s x .nodes) q before .nodes)
 
--- none, or below n
-abbrev pub Number : ℕ → ℕ → Type 0
-Number n x = (x ≡ nobody) ⊎ (x < n)
-
 -- a node of a run with n identifiers and m formulas
 pub record NodeFits (n m : ℕ) (x : Node) : Type 0 where
   pub parent : Number n (x .parent)
@@ -114,12 +106,6 @@ pub record NodeFits (n m : ℕ) (x : Node) : Type 0 where
   pub formula : Number m (x .formula)
   pub spawner : Number n (x .spawner)
   pub contrarian : Number n (x .contrarian)
-
-pub record RecordFits (r : Rec) : Type 0 where
-  pub kind : numberOf (r .kind) ≤ 8
-  pub mark : r .mark ≤ 1
-  pub left : r .left ≤ nobody
-  pub right : r .right ≤ nobody
 
 -- the bounds of a run that ended, with every number that the trays hold
 pub record Fits (s : State) : Type 0 where
@@ -135,24 +121,13 @@ abbrev pub RunsFit : Type 0
 RunsFit =
     (branch : List ℕ) (flags : ℕ) (lent : Lengths) (s : State) → Each (λ b. b < 256) branch → outcome branch flags lent ≡ Ended s → Fits s
 
--- a tray keeps its length, and what lies beyond its first n numbers
-pub record Beyond (n : ℕ) (before after : List ℕ) : Type 0 where
-  pub long : length after ≡ length before
-  pub rest : drop n after ≡ drop n before
-
 -- "Only these lengths are written; anything beyond stays"
 abbrev pub TraysKeep : Type 0
-TraysKeep =
-    (branch : List ℕ) (flags : ℕ) (lent : Trays) →
-    Beyond nodeTrayLength (lent .nodes) (traysLeft branch flags lent .nodes) ×
-    Beyond formulaTrayLength (lent .formulas) (traysLeft branch flags lent .formulas) ×
-    Beyond edgeTrayLength (lent .edges) (traysLeft branch flags lent .edges)
+TraysKeep = (branch : List ℕ) (flags : ℕ) (lent : Trays) → Kept lent (traysLeft branch flags lent)
 
 -- what a run that ended writes has exactly the three lengths
 abbrev pub TraysSized : Type 0
-TraysSized =
-    (branch : List ℕ) (flags : ℕ) (lent : Lengths) (s : State) → outcome branch flags lent ≡ Ended s →
-    (length (traysOf s .nodes) ≡ nodeTrayLength) × (length (traysOf s .formulas) ≡ formulaTrayLength) × (length (traysOf s .edges) ≡ edgeTrayLength)
+TraysSized = (branch : List ℕ) (flags : ℕ) (lent : Lengths) (s : State) → outcome branch flags lent ≡ Ended s → Sized (traysOf s)
 
 -- "Refusals 1 to 11 write nothing"
 abbrev pub RefusalsWriteNothing : Type 0

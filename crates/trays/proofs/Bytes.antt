@@ -1,17 +1,21 @@
--- The bytes of a record.
+-- The bytes of a record, and the record of a node under its identifier.
 use Prim.Native.Nat.{ℕ, _%_, _≤_, _<_}
-use mathlib.Core.Path.{_≡_, refl}
+use mathlib.Core.Path.{_≡_, refl, sym, _∙_, subst}
 use mathlib.Core.Bool.{cond}
-use mathlib.Core.List.{[], _∷_, _++_}
+use mathlib.Core.List.{List, [], _∷_, _++_}
+use mathlib.Core.Logic.{_⊎_, inl, inr}
 use native.Mathlib.Omega.{arith}
+use lib.ListN.{length}
+use Rattle.definition.specs.Lists.{Each}
 use Rattle.definition.specs.Records.{Kind, Rec, Atomic, Non, And, Or, Imply, BiImply, StrictImply, Possible, Necessary, Unknown, Comment, numberOf}
-use Rattle.definition.specs.Tree.{Node, Place, Root, Left, Middle, Right, Unplaced, placeNumber, isContradictory}
+use Rattle.definition.specs.Tree.{Node, Place, Root, Left, Middle, Right, Unplaced, placeNumber, isContradictory, nodeAt}
 use Rattle.definition.specs.Trays.{two, nodeBytes, recordBytes}
+use Rattle.definition.proofs.Lists.{each-get}
+use Rattle.definition.proofs.Nodes.{blank}
 use Rattle.tree.specs.Lay.{placeCode}
-
--- the low byte of a number below 256
-pub low-same : {b n m : ℕ} → b ≡ n % 256 → n ≡ m → m < 256 → b ≡ m
-low-same p q h = omega arith
+use Rattle.tree.specs.Sequence.{idAt}
+use Rattle.tree.proofs.Sequence.{id-fits}
+use Rattle.slices.specs.Written.{Puts}
 
 pub number-low : (k : Kind) → numberOf k < 256
 unfolding numberOf
@@ -53,3 +57,16 @@ pub record-bytes : (r : Rec) {kind mark left right : ℕ} → kind ≡ numberOf 
     (kind ∷ mark ∷ []) ++ two left ++ two right ≡ recordBytes r
 unfolding recordBytes
 record-bytes r a b c d = rw (a, b, c, d)
+
+-- node i, under the identifier that the sequence has for it
+pub node-put : (ns : List Node) {x i at next : ℕ} {a b : List ℕ} → x ≡ idAt i → i < 512 → Each (λ (n : Node). n .world < 256) ns → i < length ns
+    → (nodeAt ns x .world < 256 → Puts (nodeBytes (nodeAt ns x)) at a next b) → Puts (nodeBytes (nodeAt ns i)) at a next b
+node-put ns {x} {i} {at} {next} {a} {b} e few worlds low f =
+    let same = e ∙ id-fits i few in
+    let here = each-get (λ (n : Node). n .world < 256) ns blank worlds i (λ g. absurd (omega (arith, g, low))) in
+    subst (λ (k : ℕ). Puts (nodeBytes (nodeAt ns k)) at a next b) same (f (subst (λ (k : ℕ). nodeAt ns k .world < 256) (sym same) here))
+
+-- a tray that is long enough, and a count within the limit
+pub not-kept : {A : Type 0} {long need count most : ℕ} → need ≤ long → count ≤ most → (long < need) ⊎ (most < count) → A
+not-kept h g (inl k) = absurd (omega arith)
+not-kept h g (inr k) = absurd (omega arith)

@@ -1,5 +1,3 @@
-pub mod Writing
-pub mod Parts
 pub mod Bytes
 pub mod Numbers
 pub mod Again

@@ -14,8 +14,9 @@ use Rattle.definition.specs.Lists.{Each}
 use Rattle.definition.proofs.Lists.{each-map, each-get}
 use Rattle.definition.specs.Graph.{Graph, edge}
 use Rattle.definition.specs.Trays.{rowNumber, padded, over}
+use Rattle.definition.proofs.TraysKept.{length-padded}
 use Rattle.graph.specs.Drawn.{Drawn}
-use Rattle.trays.proofs.Writing.{Writing, written-none, writing-start, writing-one, writing-end, padded-length}
+use Rattle.slices.proofs.Writing.{Writing, written-none, writing-start, writing-one, writing-end}
 
 -- ---- one row
 abbrev pub rowOf : Graph → ℕ → List Bool
@@ -71,7 +72,7 @@ module _ (g : Graph) {n : ℕ} {a : List ℕ} (drawn : Drawn g n a) (square : le
   row-none u h = rw (List·getD-eq-default (g .rows) [] {n = u} (omega (arith, square, drawn .count)))
 
   numbers-length : length (rowNumbers g) ≡ 25
-  numbers-length = padded-length 25 (map rowNumber (g .rows)) (omega (arith, length-map (g .rows) rowNumber, drawn .count, drawn .room))
+  numbers-length = length-padded 25 (map rowNumber (g .rows)) (omega (arith, length-map (g .rows) rowNumber, drawn .count, drawn .room))
 
   number-at : (u : ℕ) → getD (rowNumbers g) u 0 ≡ rowNumber (rowOf g u)
   unfolding padded pad rowNumber

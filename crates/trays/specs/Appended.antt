@@ -4,7 +4,7 @@ use mathlib.Core.List.{List}
 use Prim.Native.Nat.{ℕ}
 use lib.ListN.{length}
 use denote.Ref.{now, at-last}
-use Rattle.trays.specs.Written.{Puts}
+use Rattle.slices.specs.Written.{Puts}
 use Rattle.trays.specs.declared.NodeWriter.{NodeWriter}
 
 -- the same borrow, at a list as long. `at-last x l` is the reference x, its pointer and its ghost name with it, at the list l

@@ -7,6 +7,10 @@ use formula::mark_at;
 use formula::right_at;
 use graph::PossibleWorld;
 use graph::contains;
+use slices::low;
+use slices::put;
+use slices::put_two;
+use slices::put_zeros;
 use tree::ProofTreeNodeID;
 use tree::contrarian_of;
 use tree::formula_of;
@@ -18,69 +22,21 @@ use tree::spawner_of;
 use tree::world_of;
 ghost use mathlib.Core.Path.{_≡_};
 ghost use mathlib.Core.Bool.{Bool, cond};
-ghost use mathlib.Core.List.{List, [], _∷_, map};
+ghost use mathlib.Core.List.{List, [], map};
 ghost use mathlib.Core.Logic.{_⊎_};
-ghost use Prim.Native.Nat.{ℕ, _≤_, _<_, _/_, _%_};
+ghost use Prim.Native.Nat.{_≤_, _<_};
 ghost use lib.ListN.{length, getD, replicate};
 ghost use Rattle.definition.specs.Limits.{nodeTrayLength, formulaTrayLength, edgeTrayLength};
 ghost use Rattle.definition.specs.Lists.{Each, concatMap};
 ghost use Rattle.definition.specs.Records.{Rec, recAt};
 ghost use Rattle.definition.specs.Tree.{Node, Place, placeNumber, nodeAt};
 ghost use Rattle.definition.specs.Graph.{Graph};
-ghost use Rattle.definition.specs.Trays.{two, nodeBytes, recordBytes, rowNumber, padded, over};
+ghost use Rattle.definition.specs.Trays.{nodeBytes, recordBytes, rowNumber, padded, over};
 ghost use Rattle.tree.specs.Lay.{placeCode, lay};
 ghost use Rattle.formula.specs.Recorded.{Recorded};
 ghost use Rattle.graph.specs.Drawn.{Drawn};
-ghost use Rattle.trays.specs.Written.{Written, Puts};
+ghost use Rattle.slices.specs.Written.{Puts};
 ghost use Rattle.trays.specs.Appended.{SameTray, Appends};
-
-fn low(n: u16) -> u8
-    ensures { λ r. ⌜ r ≡ n % 256 ⌝ }
-{
-    (n % 256) as u8
-}
-
-fn high(n: u16) -> u8
-    ensures { λ r. ⌜ r ≡ n / 256 ⌝ }
-{
-    (n / 256) as u8
-}
-
-// One byte at a position; beyond the end, nothing.
-fn put(tray: &mut [u8], at: usize, b: u8) -> usize
-    ensures { λ r. ⌜ Puts (b ∷ []) at (now (tray .entry)) r (now (tray .exit)) ⌝ }
-{
-    if tray.len() <= at {
-        return at;
-    }
-    tray[at] = b;
-    at + 1
-}
-
-// Two bytes, the low one first.
-fn put_two(tray: &mut [u8], at: usize, n: u16) -> usize
-    ensures { λ r. ⌜ Puts (two n) at (now (tray .entry)) r (now (tray .exit)) ⌝ }
-{
-    let l = low(n);
-    let h = high(n);
-    let next = put(tray, at, l);
-    put(tray, next, h)
-}
-
-// Zeros from a position to an end; a tray that is shorter is left.
-fn put_zeros(tray: &mut [u8], at: usize, end: usize)
-    ensures { λ r. ⌜ ((lent w : List ℕ) → Written lent w at (now (tray .entry)) → length w ≤ end → end ≤ length lent → now (tray .exit) ≡ over (padded end w) lent)
-        × (length (now (tray .entry)) < end → now (tray .exit) ≡ now (tray .entry)) ⌝ }
-{
-    if tray.len() < end {
-        return;
-    }
-    let mut i = at;
-    while i < end {
-        tray[i] = 0;
-        i += 1;
-    }
-}
 
 // The place in a node record; 4 if the node was never placed.
 fn place_byte(place: u16) -> u8

@@ -144,7 +144,7 @@ module _ {F : Setting} {k : ℕ} {s : State} {p : Popped} (h : Stepping F k s p)
 
   formulas-are : s′ .formulas ≡ s .formulas ++ expansion (s .formulas) f .made
   unfolding checkedForContradictions appended
-  formulas-are = ap (λ (more : List Rec). s .formulas ++ more) (apply-made (λ r. Unit {0}) (λ r q. tt) F s (p .node))
+  formulas-are = ap (λ (more : List Rec). s .formulas ++ more) (apply-made F s (p .node))
 
   few-formulas : length (s′ .formulas) < nobody
   few-formulas =

@@ -25,13 +25,13 @@ use Rattle.definition.specs.Call.{Outcome, Refused, Full, Ended, outcome
 use Rattle.definition.specs.Claim.{Proved}
 use Rattle.definition.specs.Countermodel.{keepsEdges, readOff, firstOpen, Countermodel}
 use Rattle.definition.specs.Completeness.{InTime, Open, HasCountermodel, Complete, ExactInTime}
+use Rattle.definition.specs.Fits.{RecordFits}
 use Rattle.definition.proofs.Lists.{true-false, either, or-cases, and-left, and-right, and-both, some-among, each-map, each-of, each-among, among-elem}
 use Rattle.definition.proofs.Exact.{final-stops}
 use Rattle.definition.proofs.Accepted.{Accepted}
 use Rattle.definition.proofs.Priest.{Claims}
 use Rattle.definition.proofs.Edges.{init-worlds}
 use Rattle.definition.proofs.Sound.{demand-3, not-full}
-use Rattle.definition.proofs.Bounds.{RecordFits}
 use Rattle.definition.proofs.Treed.{spots, In, Treed, Bare, leaves-bare}
 use Rattle.definition.proofs.Partners.{pairOf}
 use Rattle.definition.proofs.Below.{path-there}

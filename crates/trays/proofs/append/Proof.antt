@@ -44,7 +44,7 @@ use denote.Signature.Struct.{inStruct, makes}
 use Rattle.tree.specs.declared.ProofTreeNodeID.{ProofTreeNodeID}
 use Rattle.tree.proofs.ProofTreeNodeID as N
 use Rattle.tree.proofs.ProofTreeNodeID.Laws as N′
-use Rattle.trays.specs.Written.{Puts}
+use Rattle.slices.specs.Written.{Puts}
 use Rattle.trays.specs.declared.NodeWriter.{NodeWriter}
 use Rattle.trays.proofs.NodeWriter as T
 use Rattle.trays.proofs.NodeWriter.Laws as T′

@@ -5,7 +5,7 @@ use mathlib.Core.List.{List, []}
 use native.Mathlib.Omega.{arith}
 use lib.ListN.{length}
 use Rattle.definition.specs.Trays.{over}
-use Rattle.trays.proofs.Writing.{Zeros, written-none, padded-none, zeros-start, zeros-next, zeros-end}
+use Rattle.slices.proofs.Writing.{Zeros, written-none, padded-none, zeros-start, zeros-next, zeros-end}
 use Rattle.trays.proofs.clear_edges.Statement.{statement}
 use Rattle.trays.proofs.clear_edges.Tie as tie
 

@@ -1,6 +1,6 @@
 use Rattle.definition.specs.Records.{recAt}
-use Rattle.trays.proofs.Writing.{puts-then, puts-as}
-use Rattle.trays.proofs.Bytes.{record-bytes, low-same, number-low}
+use Rattle.slices.proofs.Writing.{low-same, puts-then, puts-as}
+use Rattle.trays.proofs.Bytes.{record-bytes, number-low}
 use borrow.Author.Needs.{needs}
 use Rattle.trays.proofs.put_formula.Statement.{statement}
 use Rattle.trays.proofs.put_formula.Tie as tie
@@ -55,10 +55,10 @@ returns c = λ rs p h b.
     (low-same (d1 .before .low2 .ensures) (mark .mark-at .ensures rs p h) b)
     (left .left-at .ensures rs p h)
     (right .right-at .ensures rs p h))
-    (puts-then (d0 .put .ensures)
-    (puts-then (d1 .put2 .ensures)
-    (puts-then (d2 .put-two .ensures)
-    (d3 .put-two2 .ensures))))
+    (puts-then (d0 .put .ensures .0)
+    (puts-then (d1 .put2 .ensures .0)
+    (puts-then (d2 .put-two .ensures .0)
+    (d3 .put-two2 .ensures .0))))
 
 pub put-formula-spec : {M : Type 1} → statement M
 put-formula-spec =

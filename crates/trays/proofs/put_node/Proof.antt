@@ -2,8 +2,8 @@ use native.Mathlib.Omega.{arith}
 use mathlib.Core.Path.{_∙_, ap}
 use mathlib.Core.Bool.{Bool, cond}
 use Rattle.definition.specs.Tree.{nodeAt}
-use Rattle.trays.proofs.Writing.{puts-then, puts-as}
-use Rattle.trays.proofs.Bytes.{node-bytes, low-same}
+use Rattle.slices.proofs.Writing.{low-same, puts-then, puts-as}
+use Rattle.trays.proofs.Bytes.{node-bytes}
 use borrow.Author.Needs.{needs}
 use Rattle.trays.proofs.put_node.Statement.{statement}
 use Rattle.trays.proofs.put_node.Tie as tie
@@ -92,14 +92,14 @@ returns c = λ ns l q b.
     (spawner .spawner-of .ensures ns l q)
     (contrarian .contrarian-of .ensures ns l q)
     (d6 .before .bit .ensures .0 ∙ ap (λ (z : Bool). cond z 1 0) (contradictory .is-contradictory .ensures ns l q)))
-    (puts-then (d0 .put-two .ensures)
-    (puts-then (d1 .put .ensures)
-    (puts-then (d2 .put2 .ensures)
-    (puts-then (d3 .put-two2 .ensures)
-    (puts-then (d4 .put-two3 .ensures)
-    (puts-then (d5 .put-two4 .ensures)
-    (puts-then (d6 .put3 .ensures)
-    (d7 .put4 .ensures))))))))
+    (puts-then (d0 .put-two .ensures .0)
+    (puts-then (d1 .put .ensures .0)
+    (puts-then (d2 .put2 .ensures .0)
+    (puts-then (d3 .put-two2 .ensures .0)
+    (puts-then (d4 .put-two3 .ensures .0)
+    (puts-then (d5 .put-two4 .ensures .0)
+    (puts-then (d6 .put3 .ensures .0)
+    (d7 .put4 .ensures .0))))))))
 
 pub put-node-spec : {M : Type 1} → statement M
 put-node-spec =

@@ -7,7 +7,7 @@ use lib.ListN.{length}
 use Rattle.definition.specs.Lists.{Each}
 use Rattle.definition.specs.Graph.{Graph}
 use Rattle.graph.specs.Drawn.{Drawn}
-use Rattle.trays.proofs.Writing.{not-kept}
+use Rattle.trays.proofs.Bytes.{not-kept}
 use Rattle.trays.proofs.Numbers.{Edges, row-fits, edges-start, edges-next, edges-end}
 use borrow.Author.Needs.{needs}
 use Rattle.trays.proofs.write_edges.Statement.{statement}

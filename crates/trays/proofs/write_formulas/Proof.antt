@@ -11,8 +11,8 @@ use Rattle.formula.specs.Recorded.{Recorded, missing}
 use Rattle.formula.proofs.Recorded.{recorded-count}
 use Rattle.definition.proofs.Lists.{each-get}
 use Rattle.definition.proofs.TraysKept.{length-parts, record-length}
-use Rattle.trays.proofs.Writing.{not-kept}
-use Rattle.trays.proofs.Parts.{Parts, parts-start, parts-next, parts-end}
+use Rattle.trays.proofs.Bytes.{not-kept}
+use Rattle.slices.proofs.Parts.{Parts, parts-start, parts-next, parts-end}
 use Rattle.trays.proofs.write_formulas.Statement.{statement}
 use Rattle.trays.proofs.write_formulas.Tie as tie
 

@@ -10,8 +10,8 @@ use Rattle.definition.specs.Trays.{nodeBytes}
 use Rattle.definition.proofs.Nodes.{blank}
 use Rattle.tree.specs.Lay.{lay}
 use Rattle.definition.proofs.TraysKept.{length-parts, node-length}
-use Rattle.trays.proofs.Writing.{not-kept}
-use Rattle.trays.proofs.Parts.{Parts, parts-start, parts-next, parts-end, node-put}
+use Rattle.trays.proofs.Bytes.{node-put, not-kept}
+use Rattle.slices.proofs.Parts.{Parts, parts-start, parts-next, parts-end}
 use Rattle.trays.proofs.write_nodes.Statement.{statement}
 use Rattle.trays.proofs.write_nodes.Tie as tie
 

@@ -1,17 +1,19 @@
--- Laws of a tray while it is written.
+-- Laws of a slice while it is written.
 use Prim.Native.Nat.{ℕ, suc, _+_, _-_, _/_, _%_, _≤_, _<_}
 use mathlib.Core.Path.{_≡_, refl, sym, ap, _∙_, subst}
 use mathlib.Core.List.{List, [], _∷_, _++_, append-assoc, append-nil}
-use mathlib.Core.Logic.{_⊎_, inl, inr}
 use native.Mathlib.Omega.{arith}
 use native.Mathlib.Numerals.{add-one}
 use native.Mathlib.Nat.{sub-zero}
-use lib.ListN.{length, getD, set, drop, replicate, length-append, length-drop}
+use lib.ListN.{length, getD, set, take, drop, replicate, length-append, length-take, length-drop, take-append-drop}
 use lib.Seq.{drop-cons, set-at, append-snoc}
-use Rattle.arrays.specs.Data.{pad}
-use Rattle.arrays.proofs.Laws.{length-pad}
 use Rattle.definition.specs.Trays.{two, over, padded}
-use Rattle.trays.specs.Written.{Written, Puts}
+use Rattle.definition.proofs.TraysKept.{length-padded}
+use Rattle.slices.specs.Written.{Written, Puts}
+
+-- the low byte of a number below 256
+pub low-same : {b n m : ℕ} → b ≡ n % 256 → n ≡ m → m < 256 → b ≡ m
+low-same p q h = omega arith
 
 -- ---- over
 pub over-length : (w lent : List ℕ) → length w ≤ length lent → length (over w lent) ≡ length lent
@@ -29,6 +31,12 @@ over-set w lent b h =
 pub written-none : (lent : List ℕ) → Written lent [] 0 lent
 unfolding over
 written-none lent = record { ends = refl; cells = refl }
+
+written-at : (t : List ℕ) (at : ℕ) → at ≤ length t → Written t (take at t) at t
+unfolding over
+written-at t at h =
+    let e : length (take at t) ≡ at = simp length-take (omega arith) in
+    record { ends = sym e; cells = rw e (sym (take-append-drop at t)) }
 
 module _ {lent w t : List ℕ} {at : ℕ} (h : Written lent w at t) where
   pub written-length : length w ≤ length lent → length t ≡ length lent
@@ -59,13 +67,24 @@ puts-then {bs} {cs} {v} {last} p q =
 pub puts-as : {bs cs t u : List ℕ} {at next : ℕ} → bs ≡ cs → Puts bs at t next u → Puts cs at t next u
 puts-as {bs} {cs} {t} {u} {at} {next} e p = subst (λ (l : List ℕ). Puts l at t next u) e p
 
+-- where there is no room for a second byte, the first is all that is put; where there is none for the first, nothing is
+module _ {t u v : List ℕ} {at next last : ℕ} (second : length u ≤ next → (last ≡ next) × (v ≡ u)) where
+  pub puts-one-only : {b low : ℕ} → low ≡ b → Puts (low ∷ []) at t next u → length t ≡ at + 1 → Puts (b ∷ []) at t last v
+  puts-one-only {b} {low} e p h =
+      let z = p .puts t (take at t) (written-at t at (omega arith)) (omega (arith, length-take at t)) in
+      let k = second (omega (arith, z .ends, length-append (take at t) (low ∷ []), length-take at t, written-length z (omega (arith, length-append (take at t) (low ∷ []), length-take at t)))) in
+      rw (k .0, k .1, sym e) p
+
+  pub puts-none : (length t ≤ at → (next ≡ at) × (u ≡ t)) → length t ≤ at → (last ≡ at) × (v ≡ t)
+  puts-none first h = let f = first h in let k = second (omega (arith, f .0, ap length (f .1))) in (k .0 ∙ f .0, k .1 ∙ f .1)
+
 pub puts-two : {t u v : List ℕ} {at next last low high : ℕ} (n : ℕ) → low ≡ n % 256 → high ≡ n / 256 → Puts (low ∷ []) at t next u → Puts (high ∷ []) next u last v → Puts (two n) at t last v
 puts-two n p q a b = puts-as (rw (p, q)) (puts-then a b)
 
 -- ---- a loop that writes the goal: what stands before the position, and what is left, make it up
-pub record Writing (goal rest lent : List ℕ) (at : ℕ) (tray : List ℕ) : Type 0 where
+pub record Writing (goal rest lent : List ℕ) (at : ℕ) (slice : List ℕ) : Type 0 where
   pub before : List ℕ
-  pub written : Written lent before at tray
+  pub written : Written lent before at slice
   pub same : before ++ rest ≡ goal
 
 pub writing-start : {goal lent w t : List ℕ} {at : ℕ} (rest : List ℕ) → Written lent w at t → w ++ rest ≡ goal → Writing goal rest lent at t
@@ -93,20 +112,16 @@ module _ {goal rest lent t : List ℕ} {at : ℕ} (h : Writing goal rest lent at
   writing-one b more e l = writing-next (puts-one b at t) e l
 
 -- ---- zeros to an end
-pub padded-length : (n : ℕ) (s : List ℕ) → length s ≤ n → length (padded n s) ≡ n
-unfolding padded pad
-padded-length n s h = length-pad n s h
-
 pub padded-none : (n : ℕ) → padded n [] ≡ replicate n 0
 unfolding padded
 padded-none n = rw sub-zero
 
-abbrev pub Zeros : (end : ℕ) (w lent : List ℕ) (i : ℕ) (tray : List ℕ) → Type 0
-Zeros end w lent i tray = Writing (padded end w) (replicate (end - i) 0) lent i tray
+abbrev pub Zeros : (end : ℕ) (w lent : List ℕ) (i : ℕ) (slice : List ℕ) → Type 0
+Zeros end w lent i slice = Writing (padded end w) (replicate (end - i) 0) lent i slice
 
 module _ (end : ℕ) (w lent : List ℕ) (fits : length w ≤ end) (room : end ≤ length lent) where
   goal-fits : length (padded end w) ≤ length lent
-  goal-fits = omega (arith, padded-length end w fits)
+  goal-fits = omega (arith, length-padded end w fits)
 
   one-less : (i : ℕ) → i < end → replicate {A = ℕ} (end - i) 0 ≡ 0 ∷ replicate (end - (i + 1)) 0
   one-less i h = let e : end - i ≡ suc (end - (i + 1)) = omega arith in rw e
@@ -121,8 +136,3 @@ module _ (end : ℕ) (w lent : List ℕ) (fits : length w ≤ end) (room : end �
 
     pub zeros-end : end ≤ i → t ≡ over (padded end w) lent
     zeros-end h = let e : end - i ≡ 0 = omega arith in writing-end z (rw e) .cells
-
--- ---- a tray that is long enough, and a count within the limit
-pub not-kept : {A : Type 0} {long need count most : ℕ} → need ≤ long → count ≤ most → (long < need) ⊎ (most < count) → A
-not-kept h g (inl k) = absurd (omega arith)
-not-kept h g (inr k) = absurd (omega arith)

@@ -1,25 +1,19 @@
 -- A loop that writes a list's elements, f's numbers for each.
 use Prim.Native.Nat.{ℕ, _+_, _*_, _≤_, _<_}
-use mathlib.Core.Path.{_≡_, refl, sym, _∙_, subst}
+use mathlib.Core.Path.{_≡_, refl}
 use mathlib.Core.List.{List, _++_}
 use native.Mathlib.Omega.{arith}
 use native.Mathlib.Numerals.{add-one}
 use lib.ListN.{length, getD, drop, drop-of-length-le}
 use lib.Seq.{drop-cons}
-use Rattle.definition.specs.Lists.{Each, concatMap}
-use Rattle.definition.specs.Tree.{Node, nodeAt}
-use Rattle.definition.specs.Trays.{nodeBytes}
-use Rattle.definition.proofs.Lists.{each-get}
-use Rattle.definition.proofs.Nodes.{blank}
+use Rattle.definition.specs.Lists.{concatMap}
 use Rattle.definition.proofs.TraysKept.{length-parts}
-use Rattle.tree.specs.Sequence.{idAt}
-use Rattle.tree.proofs.Sequence.{id-fits}
-use Rattle.trays.specs.Written.{Written, Puts}
-use Rattle.trays.proofs.Writing.{Writing, written-none, writing-start, writing-next, writing-end}
+use Rattle.slices.specs.Written.{Written, Puts}
+use Rattle.slices.proofs.Writing.{Writing, written-none, writing-start, writing-next, writing-end}
 
 -- the first i elements are written
 abbrev pub Parts : {A : Type 0} → (A → List ℕ) → List A → List ℕ → ℕ → ℕ → List ℕ → Type 0
-Parts f xs lent i at tray = Writing (concatMap f xs) (concatMap f (drop i xs)) lent at tray
+Parts f xs lent i at slice = Writing (concatMap f xs) (concatMap f (drop i xs)) lent at slice
 
 module _ {A : Type 0} (f : A → List ℕ) (k : ℕ) (size : (x : A) → length (f x) ≡ k) where
   module _ (xs : List A) (lent : List ℕ) where
@@ -34,11 +28,3 @@ module _ {A : Type 0} (f : A → List ℕ) (k : ℕ) (size : (x : A) → length 
 
       pub parts-end : length xs ≤ i → Written lent (concatMap f xs) at t
       parts-end h = writing-end p (rw (drop-of-length-le xs {i = i} h))
-
--- node i, under the identifier that the sequence has for it
-pub node-put : (ns : List Node) {x i at next : ℕ} {a b : List ℕ} → x ≡ idAt i → i < 512 → Each (λ (n : Node). n .world < 256) ns → i < length ns
-    → (nodeAt ns x .world < 256 → Puts (nodeBytes (nodeAt ns x)) at a next b) → Puts (nodeBytes (nodeAt ns i)) at a next b
-node-put ns {x} {i} {at} {next} {a} {b} e few worlds low f =
-    let same = e ∙ id-fits i few in
-    let here = each-get (λ (n : Node). n .world < 256) ns blank worlds i (λ g. absurd (omega (arith, g, low))) in
-    subst (λ (k : ℕ). Puts (nodeBytes (nodeAt ns k)) at a next b) same (f (subst (λ (k : ℕ). nodeAt ns k .world < 256) (sym same) here))
