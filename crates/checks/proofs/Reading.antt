@@ -10,10 +10,9 @@ use native.Mathlib.Numerals.{add-one}
 use lib.ListN.{length, getD, set, drop, replicate, length-append, drop-of-length-le, List·getD-map}
 use lib.Seq.{drop-cons}
 use borrow.Author.Tests.{eq-eqb, ne-eqb}
-use Rattle.arrays.specs.Data.{pad}
-use Rattle.arrays.proofs.Laws.{snoc-pad}
+use Rattle.arrays.proofs.Laws.{snoc-padded}
 use Rattle.definition.specs.Limits.{recordLength, mostRecords, mostSize}
-use Rattle.definition.specs.Lists.{below}
+use Rattle.definition.specs.Lists.{below, padded}
 use Rattle.definition.specs.Records.{Rec, recordAt, decode, marksFrom, marks}
 use Rattle.definition.specs.Checks.{Check, expandedSize, checksOfRecord, recordChecks, firstOf}
 use Rattle.definition.proofs.Lists.{from-get}
@@ -43,11 +42,11 @@ record-small x i size o e t = small i size (recordOf x) (part-passed (checksOfRe
 pub record Reading (bytes a : List ℕ) (i : ℕ) : Type 0 where
   pub sizes : List ℕ
   pub count : length sizes ≡ i
-  pub array : a ≡ pad mostRecords sizes
+  pub array : a ≡ padded mostRecords sizes
   pub left : firstOf (recordChecks sizes (drop i (decode bytes))) ≡ firstOf (recordChecks [] (decode bytes))
 
 pub reading-start : (bytes : List ℕ) → Reading bytes (replicate mostRecords 0) 0
-unfolding pad
+unfolding padded
 reading-start bytes = record { sizes = []; count = refl; array = refl; left = refl }
 
 pub reading-end : {bytes a : List ℕ} {i : ℕ} {o : Option Check} → Reading bytes a i → length bytes / recordLength ≤ i → o ≡ none → o ≡ firstOf (recordChecks [] (decode bytes))
@@ -56,7 +55,7 @@ reading-end {bytes} {a} {i} p h e = e ∙ ap (λ (rs : List Rec). firstOf (recor
 
 module _ {bytes a : List ℕ} {i : ℕ} (p : Reading bytes a i) (h : i < length bytes / recordLength) (g : i < mostRecords) (x : Record) (size : ℕ) (o : Option Check)
     (ex : i < mostRecords → recordOf x ≡ recordAt bytes i)
-    (es : (s : List ℕ) → a ≡ pad mostRecords s → length s ≤ mostRecords → size ≡ expandedSize s (recordOf x))
+    (es : (s : List ℕ) → a ≡ padded mostRecords s → length s ≤ mostRecords → size ≡ expandedSize s (recordOf x))
     (eo : o ≡ firstOf (checksOfRecord i size (recordOf x))) where
   known : size ≡ expandedSize (p .sizes) (recordOf x)
   known = es (p .sizes) (p .array) (omega (arith, p .count))
@@ -82,7 +81,7 @@ module _ {bytes a : List ℕ} {i : ℕ} (p : Reading bytes a i) (h : i < length 
       record {
         sizes = s ++ (size ∷ []);
         count = omega (arith, length-append s (size ∷ []), p .count);
-        array = rw (p .array, ← p .count) (snoc-pad mostRecords s size (omega (arith, p .count)));
+        array = rw (p .array, ← p .count) (snoc-padded mostRecords s size (omega (arith, p .count)));
         left = rw add-one (found-after (checksOfRecord i size (recordOf x)) later eo t ∙ left-now);
       }
 

@@ -25,9 +25,8 @@ ghost use mathlib.Core.Option.{none, some};
 ghost use Prim.Native.Nat.{ℕ, _<_, _≤_, _+_, _*_, _/_};
 ghost use lib.ListN.{length, getD};
 ghost use lib.Dec.{ltb, leb};
-ghost use Rattle.arrays.specs.Data.{pad};
 ghost use Rattle.definition.specs.Limits.{recordLength, mostRecords};
-ghost use Rattle.definition.specs.Lists.{any, orElse};
+ghost use Rattle.definition.specs.Lists.{any, orElse, padded};
 ghost use Rattle.definition.specs.Records.{Rec, kindOf, arity, links, recordAt, decode, marks};
 ghost use Rattle.definition.specs.Checks.{check, isShort, expandedSize, nonZeroField, sheetChecks, flagChecks, trayChecks, checksOfRecord, recordChecks, markChecks, firstOf, refused};
 ghost use Rattle.checks.specs.Checked.{recordOf, checkOf, isRefusal, lengths};
@@ -117,7 +116,7 @@ fn link_count(kind: u16) -> u16
 
 // Entry l of the sizes; 0 beyond the end.
 fn size_at(sizes: &[u16; MOST_RECORDS], l: u16) -> usize
-    ensures { λ r. ⌜ ((s : List ℕ) → now (sizes .entry) ≡ pad mostRecords s → length s ≤ mostRecords → r ≡ getD s l 0) × (r < 65536) ⌝ }
+    ensures { λ r. ⌜ ((s : List ℕ) → now (sizes .entry) ≡ padded mostRecords s → length s ≤ mostRecords → r ≡ getD s l 0) × (r < 65536) ⌝ }
 {
     let i = l as usize;
     if MOST_RECORDS <= i {
@@ -128,7 +127,7 @@ fn size_at(sizes: &[u16; MOST_RECORDS], l: u16) -> usize
 
 // The expanded size, by the sizes of the records before.
 fn expanded_size(sizes: &[u16; MOST_RECORDS], x: Record) -> usize
-    ensures { λ r. ⌜ ((s : List ℕ) → now (sizes .entry) ≡ pad mostRecords s → length s ≤ mostRecords → r ≡ expandedSize s (recordOf x)) ⌝ }
+    ensures { λ r. ⌜ ((s : List ℕ) → now (sizes .entry) ≡ padded mostRecords s → length s ≤ mostRecords → r ≡ expandedSize s (recordOf x)) ⌝ }
 {
     let n = link_count(x.kind);
     if n == 0 {

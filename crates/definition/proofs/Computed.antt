@@ -4,6 +4,7 @@ use mathlib.Core.List.{List, [], _∷_, map}
 use Prim.Native.Nat.{ℕ}
 use native.Mathlib.Omega.{arith}
 use Rattle.definition.specs.Limits.{PaperLengths}
+use Rattle.definition.specs.Lists
 use Rattle.definition.specs.Records
 use Rattle.definition.specs.Checks
 use Rattle.definition.specs.Checks.{Lengths, LongEnough}
@@ -77,7 +78,7 @@ starred =
     }
 
 listing-left : (lent : Trays) → traysAfter (computed (bytes listing) 1 exactly) lent ≡ laidOver listingTrays lent
-unfolding computed traysAfter Trays.traysOf Trays.padded Trays.nodeBytes Trays.recordBytes Trays.rowNumber Tree.placeNumber
+unfolding computed traysAfter Trays.traysOf Lists.padded Trays.nodeBytes Trays.recordBytes Trays.rowNumber Tree.placeNumber
 listing-left lent = refl
 
 pub listing-trays : ListingTrays

@@ -4,12 +4,12 @@ use mathlib.Core.Bool.{Bool, true, false, not, _&&_, _||_, cond}
 use mathlib.Core.List.{List, [], _∷_, _++_, map, reverse, reverseAux}
 use mathlib.Core.Option.{none, some}
 use mathlib.Core.Logic.{_⊎_, inl, inr, ⊎-elim, ⊎-map, _≢_}
-use Prim.Native.Nat.{ℕ, zero, suc, _<_, _≤_, _+_}
+use Prim.Native.Nat.{ℕ, zero, suc, _<_, _≤_, _+_, _-_}
 use native.Mathlib.Omega.{arith}
 use lib.Dec.{eqb}
 use borrow.Author.Tests.{eqb-true, eqb-false, eq-eqb, ne-eqb}
-use lib.ListN.{length, getD}
-use Rattle.definition.specs.Lists.{any, all, find, filter, orElse, Each, upFrom, below, elem}
+use lib.ListN.{length, getD, replicate, length-append, length-replicate}
+use Rattle.definition.specs.Lists.{any, all, find, filter, orElse, Each, upFrom, below, elem, padded}
 
 pub true-false : {A : Type 0} → true ≡ false → A
 true-false {A} e = let z : _≡_ {A = ℕ} 0 1 = cc (e) in absurd (omega arith)
@@ -406,3 +406,7 @@ pub same-both : (a b : Bool) → (a ≡ true → b ≡ true) → (b ≡ true →
 same-both true b f g = sym (f refl)
 same-both false true f g = g refl
 same-both false false f g = refl
+
+pub length-padded : (n : ℕ) (s : List ℕ) → length s ≤ n → length (padded n s) ≡ n
+unfolding padded
+length-padded n s h = omega (arith, h, length-append s (replicate (n - length s) 0), length-replicate {A = ℕ} (n - length s) 0)

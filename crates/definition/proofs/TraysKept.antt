@@ -11,13 +11,10 @@ use Rattle.definition.specs.Records.{Rec}
 use Rattle.definition.specs.Checks.{LongEnough}
 use Rattle.definition.specs.Tree.{Node}
 use Rattle.definition.specs.Run.{State}
-use Rattle.definition.specs.Trays.{Trays, nodeBytes, recordBytes, rowNumber, padded, traysOf, zeroTrays, over, laidOver}
+use Rattle.definition.specs.Trays.{Trays, nodeBytes, recordBytes, rowNumber, traysOf, zeroTrays, over, laidOver}
 use Rattle.definition.specs.Fits.{Sized, Beyond, Kept}
 use Rattle.definition.specs.Call.{lengthsOf}
-
-pub length-padded : (n : ℕ) (s : List ℕ) → length s ≤ n → length (padded n s) ≡ n
-unfolding padded
-length-padded n s h = omega (arith, h, length-append s (replicate (n - length s) 0), length-replicate {A = ℕ} (n - length s) 0)
+use Rattle.definition.proofs.Lists.{length-padded}
 
 pub length-parts : {A : Type 0} (k : ℕ) (f : A → List ℕ) → ((x : A) → length (f x) ≡ k) → (xs : List A) → length (concatMap f xs) ≡ k * length xs
 length-parts k f h [] = omega arith

@@ -3,8 +3,9 @@ use mathlib.Core.Bool.{Bool, true, false, cond, _&&_, _||_}
 use mathlib.Core.List.{List, [], _∷_, _++_}
 use mathlib.Core.Option.{Option, none, some}
 use mathlib.Core.Logic.{_≢_}
-use Prim.Native.Nat.{ℕ, zero, suc, _+_}
+use Prim.Native.Nat.{ℕ, zero, suc, _+_, _-_}
 use lib.Dec.{eqb}
+use lib.ListN.{length, replicate}
 
 -- n numbers upward from i
 abbrev pub upFrom : ℕ → ℕ → List ℕ
@@ -65,6 +66,10 @@ Distinct (x ∷ xs) = Each (λ y. y ≢ x) xs × Distinct xs
 abbrev pub concatMap : {A B : Type 0} → (A → List B) → List A → List B
 concatMap f [] = []
 concatMap f (x ∷ xs) = f x ++ concatMap f xs
+
+-- the list, and zeros up to n numbers
+unfoldable pub padded : ℕ → List ℕ → List ℕ
+padded n s = s ++ replicate (n - length s) 0
 
 abbrev pub sum : List ℕ → ℕ
 sum [] = 0

@@ -4,7 +4,7 @@ use mathlib.Core.List.{List, [], _∷_, _++_, map}
 use Prim.Native.Nat.{ℕ, _+_, _*_, _-_, _/_, _%_}
 use lib.ListN.{length, replicate, drop}
 use Rattle.definition.specs.Limits.{nodeTrayLength, formulaTrayLength, edgeTrayLength}
-use Rattle.definition.specs.Lists.{concatMap}
+use Rattle.definition.specs.Lists.{concatMap, padded}
 use Rattle.definition.specs.Records.{Rec, numberOf}
 use Rattle.definition.specs.Tree.{Node, placeNumber, isContradictory}
 use Rattle.definition.specs.Run.{State}
@@ -31,16 +31,12 @@ unfoldable pub rowNumber : List Bool → ℕ
 rowNumber [] = 0
 rowNumber (b ∷ bs) = cond b 1 0 + 2 * rowNumber bs
 
--- "Unused parts of the written lengths are zero"
-unfoldable pub padded : ℕ → List ℕ → List ℕ
-padded n s = s ++ replicate (n - length s) 0
-
 pub record Trays : Type 0 where
   pub nodes : List ℕ
   pub formulas : List ℕ
   pub edges : List ℕ
 
--- "Records are appended to the node tray in order of identifier. The formula tray holds the input, made formulas following"
+-- "Records are appended to the node tray in order of identifier. The formula tray holds the input, made formulas following", "Unused parts of the written lengths are zero"
 unfoldable pub traysOf : State → Trays
 traysOf s =
     record {

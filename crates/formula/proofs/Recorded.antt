@@ -6,8 +6,8 @@ use native.Mathlib.Omega.{arith}
 use lib.ListN.{length, getD, set, replicate, length-append, List·getD-eq-default}
 use Rattle.definition.specs.Limits.{mostFormulas}
 use Rattle.limits.specs.Arrays.{formulaFields, formulaCells}
-use Rattle.arrays.specs.Data.{pad}
-use Rattle.arrays.proofs.Laws.{getD-pad, sets-pad}
+use Rattle.definition.specs.Lists.{padded}
+use Rattle.arrays.proofs.Laws.{getD-padded, sets-padded}
 use Rattle.definition.specs.Records.{Rec, numberOf, kindOf, recAt}
 use Rattle.formula.specs.Recorded.{column, missing, flat, row, Recorded, recorded, tooMany}
 
@@ -37,7 +37,7 @@ flat-snoc (r ∷ rs) x = ap (λ (l : List ℕ). numberOf (r .kind) ∷ r .mark �
 -- ---- the relation
 -- the table of no record
 pub recorded-none : Recorded [] 0 (replicate formulaCells 0)
-unfolding pad
+unfolding padded
 recorded-none = recorded (omega arith) refl refl
 
 -- the count is within the array if and only if the records are
@@ -60,7 +60,7 @@ read-far {rs} i j none p h g e = sym e ∙ ap (column j) (sym (recAt-far rs i (o
 pub read-at : {rs : List Rec} {n : ℕ} {a : List ℕ} (i j : ℕ) → Recorded rs n a → n ≤ mostFormulas → i < n → j < formulaFields → getD a (i * formulaFields + j) 0 ≡ column j (recAt rs i)
 unfolding recAt
 read-at {rs} {n} {a} i j (recorded b e q) h g l =
-    ap (λ (m : List ℕ). getD m (i * formulaFields + j) 0) q ∙ getD-pad formulaCells (flat rs) (i * formulaFields + j) ∙ flat-read rs i j (omega arith) l
+    ap (λ (m : List ℕ). getD m (i * formulaFields + j) 0) q ∙ getD-padded formulaCells (flat rs) (i * formulaFields + j) ∙ flat-read rs i j (omega arith) l
 read-at i j (tooMany b e) h g l = absurd (omega arith)
 
 -- ---- pushes
@@ -77,5 +77,5 @@ push-at {rs} {n} {a} k m l r v d (recorded b e q) h =
     let e2 : n * formulaFields + 2 ≡ suc (suc (n * formulaFields)) = omega arith in
     let e3 : n * formulaFields + 3 ≡ suc (suc (suc (n * formulaFields))) = omega arith in
     recorded (omega arith) (omega (arith, length-append rs (x ∷ [])))
-    (rw (d, q, e1, e2, e3, ← g, flat-snoc) (sets-pad formulaCells (flat (x ∷ [])) (flat rs) (omega arith)))
+    (rw (d, q, e1, e2, e3, ← g, flat-snoc) (sets-padded formulaCells (flat (x ∷ [])) (flat rs) (omega arith)))
 push-at k m l r v d (tooMany b e) h = absurd (omega arith)

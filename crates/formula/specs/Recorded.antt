@@ -5,7 +5,7 @@ use mathlib.Core.List.{List, [], _∷_}
 use lib.ListN.{length}
 use Rattle.definition.specs.Limits.{mostFormulas}
 use Rattle.limits.specs.Arrays.{formulaCells}
-use Rattle.arrays.specs.Data.{pad}
+use Rattle.definition.specs.Lists.{padded}
 use Rattle.definition.specs.Records.{Rec, Unknown, made, numberOf, kindOf}
 
 -- field j of a record
@@ -26,7 +26,7 @@ flat (r ∷ rs) = numberOf (r .kind) ∷ r .mark ∷ r .left ∷ r .right ∷ fl
 
 -- the array holds the records, and count is how many; a count above 1,280 says that there are too many, and nothing of the array
 pub data Recorded (rs : List Rec) (count : ℕ) (a : List ℕ) : Type 0 where
-  recorded : count ≤ mostFormulas → length rs ≡ count → a ≡ pad formulaCells (flat rs) → Recorded rs count a
+  recorded : count ≤ mostFormulas → length rs ≡ count → a ≡ padded formulaCells (flat rs) → Recorded rs count a
   tooMany : mostFormulas < count → mostFormulas < length rs → Recorded rs count a
 
 -- the record with this kind number and these fields; a number above 8 is no kind of the table

@@ -9,11 +9,11 @@ use lib.ListN.{length, replicate}
 use borrow.Author.Tests.{lt-ltb, le-ltb}
 use Rattle.definition.specs.Limits.{mostIdentifiers, worldLimit, graphWidth, nodeTrayLength, formulaTrayLength, edgeTrayLength}
 use Rattle.definition.specs.RefusalNumbers.{tooManyIdentifiers}
-use Rattle.definition.specs.Lists.{concatMap}
+use Rattle.definition.specs.Lists.{concatMap, padded}
 use Rattle.definition.specs.Setting.{Setting}
 use Rattle.definition.specs.Run
 use Rattle.definition.specs.Run.{State}
-use Rattle.definition.specs.Trays.{Trays, nodeBytes, recordBytes, rowNumber, padded, over, traysOf, zeroTrays, laidOver}
+use Rattle.definition.specs.Trays.{Trays, nodeBytes, recordBytes, rowNumber, over, traysOf, zeroTrays, laidOver}
 use Rattle.definition.specs.Call.{refusal, verdict, outcomeOfRun, answerOf, traysAfter, late}
 use Rattle.formula.proofs.Recorded.{recorded-fits, recorded-count}
 use Rattle.proof.specs.declared.Progress.{Progress}

@@ -7,8 +7,9 @@ use native.Mathlib.Numerals.{add-one}
 use native.Mathlib.Nat.{sub-zero}
 use lib.ListN.{length, getD, set, take, drop, replicate, length-append, length-take, length-drop, take-append-drop}
 use lib.Seq.{drop-cons, set-at, append-snoc}
-use Rattle.definition.specs.Trays.{two, over, padded}
-use Rattle.definition.proofs.TraysKept.{length-padded}
+use Rattle.definition.specs.Lists.{padded}
+use Rattle.definition.specs.Trays.{two, over}
+use Rattle.definition.proofs.Lists.{length-padded}
 use Rattle.slices.specs.Written.{Written, Puts}
 
 -- the low byte of a number below 256

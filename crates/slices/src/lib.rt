@@ -4,7 +4,8 @@ ghost use mathlib.Core.List.{List, [], _∷_};
 ghost use mathlib.Core.Logic.{_⊎_};
 ghost use Prim.Native.Nat.{ℕ, _+_, _≤_, _<_, _/_, _%_};
 ghost use lib.ListN.{length};
-ghost use Rattle.definition.specs.Trays.{two, padded, over};
+ghost use Rattle.definition.specs.Lists.{padded};
+ghost use Rattle.definition.specs.Trays.{two, over};
 ghost use Rattle.slices.specs.Written.{Written, Puts};
 
 pub fn low(n: u16) -> u8

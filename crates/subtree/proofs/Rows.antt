@@ -12,10 +12,9 @@ use lib.ListN.{length, getD, set, drop, replicate, length-append, drop-of-length
 use lib.Seq.{drop-cons, getD-append-add}
 use Rattle.definition.specs.Limits.{mostIdentifiers}
 use Rattle.limits.specs.Arrays.{itemFields, itemCells}
-use Rattle.arrays.specs.Data.{pad}
 use Rattle.arrays.specs.Listed.{Listed}
-use Rattle.arrays.proofs.Laws.{getD-pad, snoc-pad}
-use Rattle.definition.specs.Lists.{upFrom, concatMap, Each}
+use Rattle.arrays.proofs.Laws.{getD-padded, snoc-padded}
+use Rattle.definition.specs.Lists.{upFrom, concatMap, Each, padded}
 use Rattle.definition.specs.Tree.{Node}
 use Rattle.definition.specs.Subtree.{Subtree, Targeted, Placed, flat, withMiddle, appendSubtree, appendLogicRuleResult}
 use Rattle.definition.proofs.Lists.{true-false, each-map, each-get, each-append}
@@ -85,16 +84,16 @@ result-filled (r ∷ rs) t q = go (some-node (r .count)) refl (result-filled rs)
 
 -- ---- a row more
 pub rows-none : (m : ℕ) → Rows [] 0 (replicate itemCells 0) m
-unfolding pad
+unfolding padded
 rows-none m = rows (omega arith) (omega arith) refl refl tt
 
 pub rows-more : {rs : List Row} {n m k : ℕ} {a : List ℕ} → m ≤ k → Rows rs n a m → Rows rs n a k
 rows-more {rs} {n} {m} {k} h (rows b d e q w) = rows b (omega arith) e q (each-map (λ r (i : r .start + r .count ≤ m). omega (arith, i, h)) (filled rs) w)
 rows-more h (tooMany b e) = tooMany b (omega arith)
 
-rows-as : {n m : ℕ} {a : List ℕ} (rs ss : List Row) → filled rs ≡ ss → n ≤ mostIdentifiers → n ≤ m → length ss ≡ n → a ≡ pad itemCells (concatMap cells ss) → Each (λ (r : Row). r .start + r .count ≤ m) ss → Rows rs n a m
+rows-as : {n m : ℕ} {a : List ℕ} (rs ss : List Row) → filled rs ≡ ss → n ≤ mostIdentifiers → n ≤ m → length ss ≡ n → a ≡ padded itemCells (concatMap cells ss) → Each (λ (r : Row). r .start + r .count ≤ m) ss → Rows rs n a m
 rows-as {n} {m} rs ss e b d l q w =
-    rows b d (ap length e ∙ l) (q ∙ ap (λ (v : List Row). pad itemCells (concatMap cells v)) (sym e)) (subst (λ (v : List Row). Each (λ (r : Row). r .start + r .count ≤ m) v) (sym e) w)
+    rows b d (ap length e ∙ l) (q ∙ ap (λ (v : List Row). padded itemCells (concatMap cells v)) (sym e)) (subst (λ (v : List Row). Each (λ (r : Row). r .start + r .count ≤ m) v) (sym e) w)
 
 cells-length : (rs : List Row) → length (concatMap cells rs) ≡ length rs * itemFields
 cells-length [] = refl
@@ -104,8 +103,8 @@ cells-snoc : (rs : List Row) (r : Row) → concatMap cells (rs ++ (r ∷ [])) �
 cells-snoc [] r = refl
 cells-snoc (x ∷ rs) r = ap (λ (l : List ℕ). cells x ++ l) (cells-snoc rs r)
 
-store : (l : List ℕ) (i v : ℕ) {a : List ℕ} → a ≡ pad itemCells l → i ≡ length l → i < itemCells → set a i v ≡ pad itemCells (l ++ (v ∷ []))
-store l i v q e h = ap (λ (b : List ℕ). set b i v) q ∙ ap (λ (j : ℕ). set (pad itemCells l) j v) e ∙ snoc-pad itemCells l v (omega arith)
+store : (l : List ℕ) (i v : ℕ) {a : List ℕ} → a ≡ padded itemCells l → i ≡ length l → i < itemCells → set a i v ≡ padded itemCells (l ++ (v ∷ []))
+store l i v q e h = ap (λ (b : List ℕ). set b i v) q ∙ ap (λ (j : ℕ). set (padded itemCells l) j v) e ∙ snoc-padded itemCells l v (omega arith)
 
 module _ {rs : List Row} {n m : ℕ} {a : List ℕ} (r : Row) (h : m ≤ r .start) where
   pub rows-skip : r .count ≡ 0 → Rows rs n a m → Rows (rs ++ (r ∷ [])) n a (r .start + r .count)
@@ -133,7 +132,7 @@ module _ {rs : List Row} {n m : ℕ} {a : List ℕ} (r : Row) (h : m ≤ r .star
       let two = store (l ++ x) (n * itemFields + 1) (r .start) one (omega arith) (omega arith) in
       let all = store ((l ++ x) ++ y) (n * itemFields + 2) (r .count) two (omega arith) (omega arith) in
       rows-as (rs ++ (r ∷ [])) (ss ++ (r ∷ [])) (filled-more rs r z) (omega arith) (omega (arith, pos-of-ne-zero z)) (omega (arith, length-append ss (r ∷ [])))
-      (all ∙ ap (pad itemCells) (append-assoc (l ++ x) y (r .count ∷ []) ∙ append-assoc l x (r .start ∷ r .count ∷ []) ∙ sym (cells-snoc ss r)))
+      (all ∙ ap (padded itemCells) (append-assoc (l ++ x) y (r .count ∷ []) ∙ append-assoc l x (r .start ∷ r .count ∷ []) ∙ sym (cells-snoc ss r)))
       (each-append (λ (v : Row). v .start + v .count ≤ r .start + r .count) ss (r ∷ [])
       (each-map (λ v (o : v .start + v .count ≤ m). omega (arith, o, h)) ss w) (omega arith, tt))
 
@@ -182,7 +181,7 @@ module _ {rs : List Row} {n m : ℕ} {a : List ℕ} (g : m ≤ mostIdentifiers) 
   row-read : (k : ℕ) → k < n → Rows rs n a m → (j : ℕ) → j < itemFields → getD a (k * itemFields + j) 0 ≡ getD (cells (getD (filled rs) k noRow)) j 0
   row-read k h (tooMany b e) j i = absurd (omega arith)
   row-read k h (rows b d e q w) j i =
-      ap (λ (l : List ℕ). getD l (k * itemFields + j) 0) q ∙ getD-pad itemCells (concatMap cells (filled rs)) (k * itemFields + j) ∙ cells-read (filled rs) k j (omega arith) i
+      ap (λ (l : List ℕ). getD l (k * itemFields + j) 0) q ∙ getD-padded itemCells (concatMap cells (filled rs)) (k * itemFields + j) ∙ cells-read (filled rs) k j (omega arith) i
 
   row-below : (k : ℕ) → k < n → Rows rs n a m → getD (filled rs) k noRow .start + getD (filled rs) k noRow .count ≤ m
   row-below k h (tooMany b e) = absurd (omega arith)

@@ -7,8 +7,7 @@ use lib.Dec.{eqb}
 use lib.ListN.{length}
 use Rattle.definition.specs.Limits.{mostIdentifiers}
 use Rattle.limits.specs.Arrays.{itemCells}
-use Rattle.arrays.specs.Data.{pad}
-use Rattle.definition.specs.Lists.{upFrom, concatMap, filter, Each}
+use Rattle.definition.specs.Lists.{upFrom, concatMap, filter, Each, padded}
 use Rattle.definition.specs.Subtree.{Targeted, withMiddle}
 
 pub record Row : Type 0 where
@@ -29,5 +28,5 @@ filled = filter (λ (r : Row). not (eqb (r .count) 0))
 -- The array holds those rows, whose identifiers are below m, and n is their count. A count above 512 says that there are
 -- more than 512 identifiers, and nothing of the array.
 pub data Rows (rs : List Row) (n : ℕ) (a : List ℕ) (m : ℕ) : Type 0 where
-  rows : n ≤ mostIdentifiers → n ≤ m → length (filled rs) ≡ n → a ≡ pad itemCells (concatMap cells (filled rs)) → Each (λ (r : Row). r .start + r .count ≤ m) (filled rs) → Rows rs n a m
+  rows : n ≤ mostIdentifiers → n ≤ m → length (filled rs) ≡ n → a ≡ padded itemCells (concatMap cells (filled rs)) → Each (λ (r : Row). r .start + r .count ≤ m) (filled rs) → Rows rs n a m
   tooMany : mostIdentifiers < n → mostIdentifiers < m → Rows rs n a m

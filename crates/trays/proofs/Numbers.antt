@@ -8,13 +8,12 @@ use native.Mathlib.Numerals.{add-one}
 use native.Mathlib.Nat.{pow-suc, pow-le-pow-right}
 use lib.ListN.{length, getD, set, drop, length-map, drop-of-length-le, List·getD-map, List·getD-eq-default}
 use lib.Seq.{drop-cons}
-use Rattle.arrays.specs.Data.{pad}
-use Rattle.arrays.proofs.Laws.{getD-pad}
-use Rattle.definition.specs.Lists.{Each}
+use Rattle.arrays.proofs.Laws.{getD-padded}
+use Rattle.definition.specs.Lists.{Each, padded}
 use Rattle.definition.proofs.Lists.{each-map, each-get}
 use Rattle.definition.specs.Graph.{Graph, edge}
-use Rattle.definition.specs.Trays.{rowNumber, padded, over}
-use Rattle.definition.proofs.TraysKept.{length-padded}
+use Rattle.definition.specs.Trays.{rowNumber, over}
+use Rattle.definition.proofs.Lists.{length-padded}
 use Rattle.graph.specs.Drawn.{Drawn}
 use Rattle.slices.proofs.Writing.{Writing, written-none, writing-start, writing-one, writing-end}
 
@@ -75,8 +74,8 @@ module _ (g : Graph) {n : ℕ} {a : List ℕ} (drawn : Drawn g n a) (square : le
   numbers-length = length-padded 25 (map rowNumber (g .rows)) (omega (arith, length-map (g .rows) rowNumber, drawn .count, drawn .room))
 
   number-at : (u : ℕ) → getD (rowNumbers g) u 0 ≡ rowNumber (rowOf g u)
-  unfolding padded pad rowNumber
-  number-at u = getD-pad 25 (map rowNumber (g .rows)) u ∙ List·getD-map rowNumber (g .rows) u []
+  unfolding padded padded rowNumber
+  number-at u = getD-padded 25 (map rowNumber (g .rows)) u ∙ List·getD-map rowNumber (g .rows) u []
 
   left : (u : ℕ) → u < 25 → drop u (rowNumbers g) ≡ rowNumber (rowOf g u) ∷ drop (u + 1) (rowNumbers g)
   left u h = rw (add-one) (drop-cons (rowNumbers g) u 0 (omega (arith, numbers-length)) ∙ ap (λ (x : ℕ). x ∷ drop (suc u) (rowNumbers g)) (number-at u))
