@@ -1,4 +1,4 @@
--- A set of numbers below 262,144 in an array of 8,192 words of 32 bits.
+-- A set of numbers below `leafCount` in an array of `leafWords` words of 32 bits.
 use Prim.Native.Nat.{ℕ, _/_, _%_, _^_, _<_}
 use mathlib.Core.Path.{_≡_}
 use mathlib.Core.Bool.{Bool}

@@ -1,4 +1,4 @@
-// A set of numbers below 262,144, one bit each, in an array of 8,192 words.
+// A set of numbers below LEAF_COUNT, one bit each, in an array of LEAF_WORDS words.
 // Of a call whose arrays lay out nothing of the kind that its contract names: it ends and stays in bounds; its outcome is free.
 use limits::LEAF_COUNT;
 use limits::Leaves;
@@ -51,7 +51,7 @@ pub fn insert(words: &mut Leaves, i: usize)
     words[k] = with_bit(word, i);
 }
 
-// Takes the numbers from row * 512 to row * 512 + 511 out of the set. There are 512 rows.
+// Takes the MOST_IDENTIFIERS numbers of a row out of the set. There are as many rows.
 pub fn clear_row(words: &mut Leaves, row: usize)
     ensures { λ r. ⌜ ((p : ℕ → Bool) → Bits p (now (words .entry)) → Bits (λ j. not (eqb (j / mostIdentifiers) row) && p j) (now (words .exit))) ⌝ }
 {

@@ -247,7 +247,7 @@ fn is_closed(tree: &Nodes, len: usize) -> bool
     takers(tree, len, root, &mut open) == 0
 }
 
-// Marks the pair of each path; whether every path has one. Nothing is marked where there are more than 512 nodes.
+// Marks the pair of each path; whether every path has one. Nothing is marked where there are too many nodes.
 // The tree was checked when it had `old` nodes; it was not proved then, so without a new node it is not now.
 pub fn check_for_contradictions(
     formulas: &Formulas,

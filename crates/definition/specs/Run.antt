@@ -148,7 +148,7 @@ stops F s = ended F s || full s
 abbrev pub run : ℕ → Setting → State → State
 run = steps stops
 
--- the paper's own loop, which knows no 512
+-- the paper's own loop, which knows no limit of identifiers
 abbrev pub unlimitedRun : ℕ → Setting → State → State
 unlimitedRun = steps ended
 

@@ -1,4 +1,4 @@
--- The records in one array of 1,280 rows, four numbers to a row: kind, mark, left, right. Zeros stand after the last record.
+-- The records in one array of `mostFormulas` rows, four numbers to a row: kind, mark, left, right. Zeros stand after the last record.
 use Prim.Native.Nat.{ℕ, zero, suc, _≤_, _<_}
 use mathlib.Core.Path.{_≡_}
 use mathlib.Core.List.{List, [], _∷_}
@@ -24,7 +24,7 @@ abbrev pub flat : List Rec → List ℕ
 flat [] = []
 flat (r ∷ rs) = numberOf (r .kind) ∷ r .mark ∷ r .left ∷ r .right ∷ flat rs
 
--- the array holds the records, and count is how many; a count above 1,280 says that there are too many, and nothing of the array
+-- the array holds the records, and count is how many; a count above `mostFormulas` says that there are too many, and nothing of the array
 pub data Recorded (rs : List Rec) (count : ℕ) (a : List ℕ) : Type 0 where
   recorded : count ≤ mostFormulas → length rs ≡ count → a ≡ padded formulaCells (flat rs) → Recorded rs count a
   tooMany : mostFormulas < count → mostFormulas < length rs → Recorded rs count a

@@ -90,7 +90,7 @@ fn known_kind(kind: u16) -> u16
     kind
 }
 
-// One record more, whose number is the old count; 1281 where there is no room.
+// One record more, whose number is the old count; TOO_MANY_FORMULAS where there is no room.
 pub fn push_input(
     formulas: &mut Formulas,
     count: usize,

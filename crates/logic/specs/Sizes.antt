@@ -45,7 +45,7 @@ module _ (p : Sizes) (ta ea ra la va oa wa : List ℕ) where
     pub graph : Drawn (r .graph) (p .worlds) ea
     pub necessities : Stack (r .necessities) (p .necessities) oa ra la va
 
-  -- a rule's result, placed; more than 512 nodes: full
+  -- a rule's result, placed; more nodes than there is room for: full
   pub record After (r : LogicRuleResult) (t : Placed) : Type 0 where
     pub nodes : Held (t .nodes) (p .nodes) ta
     pub rest : p .nodes ≤ mostIdentifiers → Rest r t

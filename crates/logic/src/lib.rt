@@ -130,7 +130,7 @@ fn give_on(
     here
 }
 
-// The count of nodes, of waiting nodes, of worlds and of stored necessities. More than 512 nodes: full.
+// The count of nodes, of waiting nodes, of worlds and of stored necessities. More nodes than there is room for: full.
 pub struct Sizes {
     pub nodes: usize,
     pub waiting: usize,

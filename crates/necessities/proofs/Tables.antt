@@ -38,7 +38,7 @@ or-last false false = refl
 bits-of : (a : List ℕ) → length a ≡ leafWords → Bits (bitAt a) a
 bits-of a h = record { long = h; same = λ i b. refl }
 
--- a row, by its numbers below 512 and those above
+-- a row, by its numbers below `mostIdentifiers` and those above
 in-row : (k : ℕ) (l a : List ℕ) → k < mostIdentifiers → length a ≡ leafWords → ((y : ℕ) → y < mostIdentifiers → bitAt a (k * mostIdentifiers + y) ≡ elem y l) → ((y : ℕ) → mostIdentifiers ≤ y → elem y l ≡ false) → InRow k l a
 in-row k l a r h low high = record { row = r; long = h; same = λ y. go y (ltb y mostIdentifiers) refl }
   where

@@ -1,4 +1,4 @@
--- Stored necessities: row k of three tables. Of `rows` it has three numbers (formula, world, spawner), of the leaves 512 bits, of the visited worlds one word.
+-- Stored necessities: row k of three tables. Of `rows` it has three numbers (formula, world, spawner), of the leaves a bit for each identifier, of the visited worlds one word.
 use Prim.Native.Nat.{ℕ, _+_, _*_, _<_}
 use mathlib.Core.Path.{_≡_}
 use mathlib.Core.Bool.{_&&_}
@@ -11,7 +11,7 @@ use Rattle.bits.specs.Bits.{bitOf, bitAt}
 use Rattle.definition.specs.Lists.{elem}
 use Rattle.definition.specs.Modality.{Necessity}
 
--- row k of a table of bits has the numbers of the list, which are below 512
+-- row k of a table of bits has the numbers of the list, which are below `mostIdentifiers`
 pub record InRow (k : ℕ) (l : List ℕ) (words : List ℕ) : Type 0 where
   pub row : k < mostIdentifiers
   pub long : length words ≡ leafWords

@@ -88,7 +88,7 @@ fn put_row(
     rows[k * NECESSITY_FIELDS + 2] = spawner.0;
 }
 
-// Puts the listed numbers, each below 512, into row k.
+// Puts the listed numbers, each below MOST_IDENTIFIERS, into row k.
 fn insert_all(words: &mut Leaves, k: usize, list: &Numbers, m: usize)
     ensures { λ r. ⌜ ((l : List ℕ) → Listed l m (now (list .entry)) → m ≤ mostIdentifiers → Each (λ x. x < mostIdentifiers) l → Added k l (now (words .entry)) (now (words .exit))) ⌝ }
 {
@@ -111,7 +111,7 @@ pub fn row_at(order: &Order, count: usize, i: usize) -> usize
     nth(order, count - 1 - i) as usize
 }
 
-// Pushes a necessity with the listed leaves, which has visited no world; 513 where there is no room.
+// Pushes a necessity with the listed leaves, which has visited no world; FULL where there is no room.
 pub fn store(
     order: &mut Order,
     count: usize,

@@ -36,7 +36,7 @@ one-step F s e = sym (run-next 0 F s e ∙ run-none F (step F s))
 pub kept-as : {F : Setting} {s z : State} {p : Progress} {fa ta ea ra la va oa wa ca : List ℕ} → s ≡ z → Kept F s p fa ta ea ra la va oa wa ca → Kept F z p fa ta ea ra la va oa wa ca
 kept-as {F = F} {p = p} {fa} {ta} {ea} {ra} {la} {va} {oa} {wa} {ca} e = subst (λ (z : State). Kept F z p fa ta ea ra la va oa wa ca) e
 
--- after n of at most 513 steps
+-- after n of one step more than there are identifiers
 pub record Going (F : Setting) (k : ℕ) (s : State) (n : ℕ) (p : Progress) (fa ta ea ra la va oa wa ca : List ℕ) : Type 0 where
   pub now : State
   pub fit : Fit F k now

@@ -28,7 +28,7 @@ module _ (F : Setting) (s : State) (p : Progress) (fa ta ea ra la va oa wa ca : 
     pub proved : p .proved ≡ s .proved
     pub steps : p .steps ≡ s .steps
 
-  -- a count above 512 says that the state is full, and nothing of the arrays
+  -- a count above `mostIdentifiers` says that the state is full, and nothing of the arrays
   pub data Kept : Type 0 where
     kept : Laid → Kept
     full : mostIdentifiers < p .nodes → mostIdentifiers < length (s .nodes) → Kept

@@ -47,7 +47,7 @@ ghost use Rattle.rules.specs.Here.{hereOf};
 ghost use Rattle.logic.specs.Sizes.{Before, After, placing};
 ghost use Rattle.proof.specs.Kept.{Laid, Kept};
 
-// The counts of a run, and whether it has proved. More than 512 nodes: full.
+// The counts of a run, and whether it has proved. More nodes than there is room for: full.
 pub struct Progress {
     pub formulas: usize,
     pub nodes: usize,

@@ -125,7 +125,7 @@ module _ (branch : List ℕ) (flags : ℕ) (lent : Trays) where
         let done = finish ran run-ends (a .trays) in
         contract-run _ _ e (done .0) (done .1)
 
--- no verdict has more than 25 worlds
+-- no verdict has more worlds than a byte holds
 answer-worlds : (branch : List ℕ) (flags : ℕ) (lent : Trays) → worldsOf (answer branch flags lent) ≤ 255
 unfolding answer outcome outcomeBy outcomeOfRun answerOf worldsOf
 answer-worlds branch flags lent = go (refused branch flags (lengthsOf lent)) refl

@@ -25,7 +25,7 @@ pub record Contract (branch : List ℕ) (flags : ℕ) (lent : Trays) (said : Ans
   pub leaves : left ≡ traysLeft branch flags lent
   -- "Refusals 1 to 11 write nothing": any refusal but "full"
   pub refusalsKeep : (number place : ℕ) → said ≡ refusal number place → (number ≡ tooManyIdentifiers → ⊥) → left ≡ lent
-  -- demand 2: ""full" comes exactly when that run passes 512 identifiers": the run is the paper's own loop, which knows no 512
+  -- demand 2: ""full" comes exactly when that run passes 512 identifiers": the run is the paper's own loop, which knows no such limit
   pub fullExactly : (said ≡ refusal tooManyIdentifiers 0) ↔ ((refused branch flags (lengthsOf lent) ≡ none) × Passes (settingOf flags) (decode branch))
   -- "12 zeroes the three lengths"
   pub fullZeroes : (place : ℕ) → said ≡ refusal tooManyIdentifiers place → left ≡ laidOver zeroTrays lent

@@ -35,7 +35,7 @@ RulesArePriests =
     (f : ℕ) → f < length rs → isNobody f ≡ false →
     writtenRule (formAt (rs ++ expansion rs f .made)) (expansion rs f .rule) ≡ priest (formAt rs f)
 
--- the run stops by itself: where it stops, it is proved, nothing waits, 25 worlds exist, or it is full; more steps change nothing
+-- the run stops by itself: where it stops, it is proved, nothing waits, as many worlds exist as the limit, or it is full; more steps change nothing
 abbrev pub Stops : Type 0
 Stops =
     (F : Setting) (rs : List Rec) →
@@ -44,14 +44,14 @@ Stops =
 abbrev pub StaysStopped : Type 0
 StaysStopped = (k : ℕ) (F : Setting) (rs : List Rec) → mostIdentifiers < k → run k F (start F rs) ≡ final F rs
 
--- "full" comes exactly when the paper's own loop passes 512 identifiers; otherwise the two runs are one
+-- "full" comes exactly when the paper's own loop passes `mostIdentifiers`; otherwise the two runs are one
 abbrev pub FullExactly : Type 0
 FullExactly = (F : Setting) (rs : List Rec) → (full (final F rs) ≡ true) ↔ Passes F rs
 
 abbrev pub NotFullExactly : Type 0
 NotFullExactly = (k : ℕ) (F : Setting) (rs : List Rec) → mostIdentifiers < k → full (final F rs) ≡ false → unlimitedRun k F (start F rs) ≡ final F rs
 
--- so the call refuses with 12 exactly if no check applies and that loop passes 512, and zeroes the three lengths
+-- so the call refuses with that number exactly if no check applies and that loop passes the limit, and zeroes the three lengths
 abbrev pub TwelveExactly : Type 0
 TwelveExactly =
     (branch : List ℕ) (flags : ℕ) (lent : Trays) →

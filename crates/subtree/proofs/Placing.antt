@@ -171,7 +171,7 @@ pub subtree-nothing : (t : List Node) (q : List ℕ) (target : ℕ) (s : Subtree
 unfolding appendSubtree
 subtree-nothing t q target s e = on-nothing (filter (takes t target) (leaves t)) t q s e
 
--- ---- as many copies as further leaves: more than 512 leaves are more than 512 nodes
+-- ---- as many copies as further leaves: too many leaves are too many nodes
 copies-many : (ls : List ℕ) (t : List Node) (q : List ℕ) (s : Subtree) → 0 < length (flat s) → length t + length ls ≤ length (appendCopies t q ls s .nodes)
 unfolding appendCopies
 copies-many [] t q s h = omega arith

@@ -25,8 +25,8 @@ cells r = r .target ∷ r .start ∷ r .count ∷ []
 abbrev pub filled : List Row → List Row
 filled = filter (λ (r : Row). not (eqb (r .count) 0))
 
--- The array holds those rows, whose identifiers are below m, and n is their count. A count above 512 says that there are
--- more than 512 identifiers, and nothing of the array.
+-- The array holds those rows, whose identifiers are below m, and n is their count. A count above `mostIdentifiers` says that there are
+-- more identifiers than that, and nothing of the array.
 pub data Rows (rs : List Row) (n : ℕ) (a : List ℕ) (m : ℕ) : Type 0 where
   rows : n ≤ mostIdentifiers → n ≤ m → length (filled rs) ≡ n → a ≡ padded itemCells (concatMap cells (filled rs)) → Each (λ (r : Row). r .start + r .count ≤ m) (filled rs) → Rows rs n a m
   tooMany : mostIdentifiers < n → mostIdentifiers < m → Rows rs n a m

@@ -42,7 +42,7 @@ pub struct ProofSubtree {
     pub right: Chain,
 }
 
-// How many nodes there are and how many wait; more than 512 nodes: full.
+// How many nodes there are and how many wait; more nodes than there is room for: full.
 pub struct Counts {
     pub nodes: usize,
     pub waiting: usize,
@@ -250,7 +250,7 @@ fn append_on(
     append_copies(tree, len, leaves, m, 1, s, wait, w)
 }
 
-// The subtree, below each leaf whose path holds the target and has no contradictory node. More than 512 nodes: full.
+// The subtree, below each leaf whose path holds the target and has no contradictory node. More nodes than there is room for: full.
 pub fn append_subtree(
     tree: &mut Nodes,
     len: usize,
@@ -296,7 +296,7 @@ fn item_field(items: &Items, k: usize, j: usize) -> u16
     items[k * ITEM_FIELDS + j]
 }
 
-// One subtree more: a middle chain of identifiers above all that are there. None: nothing is stored. 513 where there is no room.
+// One subtree more: a middle chain of identifiers above all that are there. None: nothing is stored. FULL where there is no room.
 pub fn push_item(items: &mut Items, count: usize, target: ProofTreeNodeID, c: Chain) -> usize
     ensures { λ r. ⌜ ((rs : List Row) (lo hi : ℕ) → Rows rs count (now (items .entry)) lo → Spans c lo hi
         → Rows (rs ++ (record { target = target .0; start = lo; count = c .count } ∷ [])) r (now (items .exit)) hi) ⌝ }

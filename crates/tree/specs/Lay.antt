@@ -1,4 +1,4 @@
--- The nodes in one array of 512 rows, nine numbers to a row. A row that has no node is nine times 65535: what `nodeAt` says of it.
+-- The nodes in one array of `mostIdentifiers` rows, nine numbers to a row. A row that has no node is nine times 65535: what `nodeAt` says of it.
 use Prim.Native.Nat.{ℕ, _≤_, _<_, _-_, _*_}
 use mathlib.Core.Path.{_≡_}
 use mathlib.Core.List.{List, [], _∷_, _++_}
@@ -33,7 +33,7 @@ row n =
 unfoldable pub lay : List Node → List ℕ
 lay ns = concatMap row ns ++ replicate ((mostIdentifiers - length ns) * nodeFields) nobody
 
--- the table holds the nodes, and len is their count; a count above 512 says that there are too many, and nothing of the table
+-- the table holds the nodes, and len is their count; a count above `mostIdentifiers` says that there are too many, and nothing of the table
 pub data Held (ns : List Node) (len : ℕ) (a : List ℕ) : Type 0 where
   held : len ≤ mostIdentifiers → length ns ≡ len → a ≡ lay ns → Held ns len a
   tooMany : mostIdentifiers < len → mostIdentifiers < length ns → Held ns len a

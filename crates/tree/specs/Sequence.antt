@@ -1,4 +1,4 @@
--- The sequence of the nodes' identifiers. Its number n is the identifier that is next, which is how many are issued; 513 says that a draw found no room.
+-- The sequence of the nodes' identifiers. Its number n is the identifier that is next, which is how many are issued; one more than `mostIdentifiers` says that a draw found no room.
 use Prim.Native.Nat.{ℕ, suc, _+_}
 use mathlib.Core.Path.{_≡_}
 use mathlib.Core.Bool.{cond}
@@ -7,7 +7,7 @@ use Rattle.definition.specs.Limits.{mostIdentifiers}
 use Rattle.definition.specs.Records.{nobody}
 use Rattle.tree.specs.declared.Issued.{Issued}
 
--- the identifier that the sequence gives next; none where 512 are issued
+-- the identifier that the sequence gives next; none where `mostIdentifiers` are issued
 unfoldable pub idAt : ℕ → ℕ
 idAt n = cond (leb mostIdentifiers n) nobody n
 

@@ -49,7 +49,7 @@ impl ProofTreeNodeID {
     }
 }
 
-// The sequence that every identifier is drawn from: how many are issued, which is the one that is next; 513 after a draw that found no room.
+// The sequence that every identifier is drawn from: how many are issued, which is the one that is next; FULL after a draw that found no room.
 struct ProofTreeNodeIDSequence {
     issued: usize,
 }
@@ -254,7 +254,7 @@ fn put_field(tree: &mut Nodes, len: usize, x: ProofTreeNodeID, j: usize, v: u16)
     tree[i * NODE_FIELDS + j] = v;
 }
 
-// One node more, not in the tree yet: its identifier, and the count with it; none and 513 where there is no room.
+// One node more, not in the tree yet: its identifier, and the count with it; none and FULL where there is no room.
 pub fn new_node(
     tree: &mut Nodes,
     len: usize,
