@@ -1,21 +1,21 @@
 // The records of a branch, and the checks before the run, part by part in their order.
+use limits::BAD_MARK_OR_FIELD;
 use limits::EDGE_TRAY_LENGTH;
+use limits::FORMULA_TOO_LARGE;
 use limits::FORMULA_TRAY_LENGTH;
 use limits::FORWARD_LINK;
 use limits::MOST_FLAGS;
 use limits::MOST_MARKED;
 use limits::MOST_RECORDS;
 use limits::MOST_SIZE;
+use limits::NO_MARKED_RECORD;
 use limits::NO_RECORD;
 use limits::NODE_TRAY_LENGTH;
-use limits::NONE_MARKED;
-use limits::OVERSIZE;
-use limits::PART_RECORD;
+use limits::PARTIAL_RECORD;
 use limits::RECORD_LENGTH;
-use limits::SHORT_TRAY;
-use limits::STRAY_FIELD;
 use limits::TOO_MANY_MARKED;
 use limits::TOO_MANY_RECORDS;
+use limits::TRAY_TOO_SHORT;
 use limits::UNKNOWN_FLAG;
 use limits::UNKNOWN_KIND;
 ghost use mathlib.Core.Path.{_≡_};
@@ -216,7 +216,7 @@ fn check_sheet(bytes: usize) -> Checked
     ensures { λ r. ⌜ checkOf r ≡ firstOf (sheetChecks bytes) ⌝ }
 {
     if bytes % RECORD_LENGTH != 0 {
-        return refusal(PART_RECORD, 0);
+        return refusal(PARTIAL_RECORD, 0);
     }
     if bytes == 0 {
         return refusal(NO_RECORD, 0);
@@ -255,7 +255,7 @@ fn check_trays(nodes: usize, formulas: usize, edges: usize) -> Checked
     ensures { λ r. ⌜ checkOf r ≡ firstOf (trayChecks (lengths nodes formulas edges)) ⌝ }
 {
     if is_short(nodes, formulas, edges) {
-        return refusal(SHORT_TRAY, 0);
+        return refusal(TRAY_TOO_SHORT, 0);
     }
     accepted()
 }
@@ -278,13 +278,13 @@ fn check_record(x: Record, i: u16, size: usize) -> Checked
         return refusal(UNKNOWN_KIND, i);
     }
     if is_stray(x) {
-        return refusal(STRAY_FIELD, i);
+        return refusal(BAD_MARK_OR_FIELD, i);
     }
     if links_forward(x, i) {
         return refusal(FORWARD_LINK, i);
     }
     if MOST_SIZE < size {
-        return refusal(OVERSIZE, i);
+        return refusal(FORMULA_TOO_LARGE, i);
     }
     accepted()
 }
@@ -338,7 +338,7 @@ fn check_marked(n: usize) -> Checked
     ensures { λ r. ⌜ ((rs : List Rec) → n ≡ length (marks rs) → checkOf r ≡ firstOf (markChecks rs)) ⌝ }
 {
     if n == 0 {
-        return refusal(NONE_MARKED, 0);
+        return refusal(NO_MARKED_RECORD, 0);
     }
     if MOST_MARKED < n {
         return refusal(TOO_MANY_MARKED, 0);

@@ -11,7 +11,7 @@ use lib.Dec.{eqb, ltb, leb}
 use borrow.Author.Tests.{eqb-false, le-ltb, ltb-false, leb-false}
 use lib.ListN.{length, length-append, length-map}
 use Rattle.definition.specs.Limits.{recordLength, mostRecords, mostSize, mostFlags, mostMarked, nodeTrayLength, formulaTrayLength, edgeTrayLength}
-use Rattle.definition.specs.RefusalNumbers.{tooManyRecords, unknownFlag, shortTray, unknownKind, strayField, forwardLink, oversize, noneMarked, tooManyMarked, tooManyIdentifiers}
+use Rattle.definition.specs.RefusalNumbers.{tooManyRecords, unknownFlag, trayTooShort, unknownKind, badMarkOrField, forwardLink, formulaTooLarge, noMarkedRecord, tooManyMarked, tooManyIdentifiers}
 use Rattle.definition.specs.Lists.{Each, any, all, empty, below}
 use Rattle.definition.specs.Records.{Rec, numberOf, links, recordAt, decode, recAt, marks}
 use Rattle.definition.specs.Checks.{Lengths, LongEnough, Check, isShort, expandedSize, nonZeroField, sheetChecks, flagChecks, trayChecks, checksOfRecord, recordChecks, markChecks, checks, firstOf, refused}
@@ -51,7 +51,7 @@ flags-passed flags h = ltb-false mostFlags flags (passed unknownFlag (flagChecks
 pub trays-passed : (lent : Lengths) → Passed (trayChecks lent) → LongEnough lent
 unfolding isShort
 trays-passed lent h =
-    let long = passed shortTray (trayChecks lent) h in
+    let long = passed trayTooShort (trayChecks lent) h in
     let rest = or-right (ltb (lent .nodes) nodeTrayLength) _ long in
     record {
       nodes = omega (arith, ltb-false (lent .nodes) nodeTrayLength (or-left (ltb (lent .nodes) nodeTrayLength) _ long));
@@ -77,12 +77,12 @@ module _ (i size : ℕ) (r : Rec) (h : Passed (checksOfRecord i size r)) where
   proper =
       record {
         kind = ltb-false 8 (numberOf (r .kind)) (record-passed unknownKind);
-        mark = ltb-false 1 (r .mark) (or-left (ltb 1 (r .mark)) (nonZeroField r) (record-passed strayField));
+        mark = ltb-false 1 (r .mark) (or-left (ltb 1 (r .mark)) (nonZeroField r) (record-passed badMarkOrField));
         links = each-map (λ l (e : leb i l ≡ false). leb-false i l e) (links r) (any-false (leb i) (links r) (record-passed forwardLink));
       }
 
   pub small : size ≤ mostSize
-  small = ltb-false mostSize size (record-passed oversize)
+  small = ltb-false mostSize size (record-passed formulaTooLarge)
 
 pub records-passed : (rs : List Rec) (sizes : List ℕ) → Passed (recordChecks sizes rs) → (j : ℕ) → j < length rs → Proper (length sizes + j) (recAt rs j)
 unfolding recordChecks recAt
@@ -98,7 +98,7 @@ records-passed (r ∷ rs) sizes h (suc j) k =
 
 module _ (rs : List Rec) (h : Passed (markChecks rs)) where
   pub some-marked : empty (marks rs) ≡ false
-  some-marked = passed noneMarked (markChecks rs) h
+  some-marked = passed noMarkedRecord (markChecks rs) h
 
   pub few-marked : length (marks rs) ≤ mostMarked
   few-marked = ltb-false mostMarked (length (marks rs)) (passed tooManyMarked (markChecks rs) h)

@@ -6,7 +6,7 @@ use Prim.Native.Nat.{ℕ, suc, _≤_, _/_, _%_}
 use lib.Dec.{eqb, ltb, leb}
 use lib.ListN.{length, getD}
 use Rattle.definition.specs.Limits.{recordLength, mostRecords, mostSize, mostFlags, mostMarked, nodeTrayLength, formulaTrayLength, edgeTrayLength}
-use Rattle.definition.specs.RefusalNumbers.{partRecord, noRecord, tooManyRecords, unknownFlag, shortTray, unknownKind, strayField, forwardLink, oversize, noneMarked, tooManyMarked}
+use Rattle.definition.specs.RefusalNumbers.{partialRecord, noRecord, tooManyRecords, unknownFlag, trayTooShort, unknownKind, badMarkOrField, forwardLink, formulaTooLarge, noMarkedRecord, tooManyMarked}
 use Rattle.definition.specs.Lists.{any, find, empty, sum}
 use Rattle.definition.specs.Records.{Rec, decode, links, numberOf, marks}
 
@@ -47,7 +47,7 @@ nonZeroField r = ltb (length (links r)) 2 && not (eqb (r .right) 0)
 -- the sheet's length in bytes: torn, blank, overlong
 abbrev pub sheetChecks : ℕ → List Check
 sheetChecks n =
-    check partRecord 0 (not (eqb (n % recordLength) 0))
+    check partialRecord 0 (not (eqb (n % recordLength) 0))
     ∷ check noRecord 0 (eqb n 0)
     ∷ check tooManyRecords 0 (ltb mostRecords (n / recordLength))
     ∷ []
@@ -58,15 +58,15 @@ flagChecks flags = check unknownFlag 0 (ltb mostFlags flags) ∷ []
 
 -- the trays lent: short tray
 abbrev pub trayChecks : Lengths → List Check
-trayChecks lent = check shortTray 0 (isShort lent) ∷ []
+trayChecks lent = check trayTooShort 0 (isShort lent) ∷ []
 
 -- record i, of this expanded size: unknown stain, stray mark, forward link, oversize
 abbrev pub checksOfRecord : ℕ → ℕ → Rec → List Check
 checksOfRecord i size r =
     check unknownKind i (ltb 8 (numberOf (r .kind)))
-    ∷ check strayField i (ltb 1 (r .mark) || nonZeroField r)
+    ∷ check badMarkOrField i (ltb 1 (r .mark) || nonZeroField r)
     ∷ check forwardLink i (any (leb i) (links r))
-    ∷ check oversize i (ltb mostSize size)
+    ∷ check formulaTooLarge i (ltb mostSize size)
     ∷ []
 
 -- "record by record 6 to 9": `sizes` are those of the records before, whose count is the record's number
@@ -78,7 +78,7 @@ recordChecks sizes (r ∷ rs) =
 
 -- the marked records: unmarked, crowded
 abbrev pub markChecks : List Rec → List Check
-markChecks rs = check noneMarked 0 (empty (marks rs)) ∷ check tooManyMarked 0 (ltb mostMarked (length (marks rs))) ∷ []
+markChecks rs = check noMarkedRecord 0 (empty (marks rs)) ∷ check tooManyMarked 0 (ltb mostMarked (length (marks rs))) ∷ []
 
 -- ---- the whole
 -- "Checks go 1 to 5, then record by record 6 to 9, then 10, 11"

@@ -2,8 +2,8 @@
 use Prim.Native.Nat.{ℕ}
 
 -- "torn: length not a multiple of 6"
-abbrev pub partRecord : ℕ
-partRecord = 1
+abbrev pub partialRecord : ℕ
+partialRecord = 1
 
 -- "blank: no record"
 abbrev pub noRecord : ℕ
@@ -18,28 +18,28 @@ abbrev pub unknownFlag : ℕ
 unknownFlag = 4
 
 -- "short tray: a tray below its length"
-abbrev pub shortTray : ℕ
-shortTray = 5
+abbrev pub trayTooShort : ℕ
+trayTooShort = 5
 
 -- "unknown stain: kind above 8"
 abbrev pub unknownKind : ℕ
 unknownKind = 6
 
 -- "stray mark: mark above 1, or a zero field not zero"
-abbrev pub strayField : ℕ
-strayField = 7
+abbrev pub badMarkOrField : ℕ
+badMarkOrField = 7
 
 -- "forward link: a link to itself or later"
 abbrev pub forwardLink : ℕ
 forwardLink = 8
 
 -- "oversize: expanded size above 4,096"
-abbrev pub oversize : ℕ
-oversize = 9
+abbrev pub formulaTooLarge : ℕ
+formulaTooLarge = 9
 
 -- "unmarked: no marked record"
-abbrev pub noneMarked : ℕ
-noneMarked = 10
+abbrev pub noMarkedRecord : ℕ
+noMarkedRecord = 10
 
 -- "crowded: more than 64 marked"
 abbrev pub tooManyMarked : ℕ

@@ -59,7 +59,7 @@ pub const LEAF_COUNT: usize = MOST_IDENTIFIERS * MOST_IDENTIFIERS;
 pub const LEAF_WORDS: usize = MOST_IDENTIFIERS * ROW_WORDS;
 
 // The refusals' numbers.
-pub const PART_RECORD: u16 = 1;
+pub const PARTIAL_RECORD: u16 = 1;
 
 pub const NO_RECORD: u16 = 2;
 
@@ -67,17 +67,17 @@ pub const TOO_MANY_RECORDS: u16 = 3;
 
 pub const UNKNOWN_FLAG: u16 = 4;
 
-pub const SHORT_TRAY: u16 = 5;
+pub const TRAY_TOO_SHORT: u16 = 5;
 
 pub const UNKNOWN_KIND: u16 = 6;
 
-pub const STRAY_FIELD: u16 = 7;
+pub const BAD_MARK_OR_FIELD: u16 = 7;
 
 pub const FORWARD_LINK: u16 = 8;
 
-pub const OVERSIZE: u16 = 9;
+pub const FORMULA_TOO_LARGE: u16 = 9;
 
-pub const NONE_MARKED: u16 = 10;
+pub const NO_MARKED_RECORD: u16 = 10;
 
 pub const TOO_MANY_MARKED: u16 = 11;
 
