@@ -7,6 +7,7 @@ use native.Mathlib.Omega.{arith}
 use lib.Dec.{eqb, leb, ltb}
 use lib.ListN.{getD, List·getD-eq-default}
 use borrow.Author.Tests.{lt-ltb, le-ltb, ltb-true, eq-eqb, ne-eqb, le-leb, lt-leb}
+use Rattle.definition.specs.Limits.{mostFormulas}
 use Rattle.cases.specs.declared.digest.Digest.{Digest}
 use Rattle.cases.specs.Bytes.{twoAt}
 use Rattle.cases.specs.Text.{Fed, decimal, letterOf, hasOne, nameOf, LinksAt, linked, recordBy, formulaWithin, formulaText, formulaOrComment}
@@ -79,14 +80,14 @@ unfolding formulaWithin
 within-more zero j tray f h g = absurd (omega arith)
 within-more (suc k) zero tray f h g = absurd (omega arith)
 within-more (suc k) (suc j) tray f h g =
-    ap (λ (x : List ℕ). cond (leb 1280 f) (63 ∷ []) x)
+    ap (λ (x : List ℕ). cond (leb mostFormulas f) (63 ∷ []) x)
     (record-same (formulaWithin k tray) (formulaWithin j tray) f _ _ _ (λ i l. within-more k j tray i (omega arith) (omega arith)))
 
 -- ---- the text of formula f
 module _ (tray : List ℕ) (f : ℕ) where
-  pub no-record : {d r : Digest} → 1280 ≤ f → Fed d (63 ∷ []) r → Fed d (formulaText tray f) r
+  pub no-record : {d r : Digest} → mostFormulas ≤ f → Fed d (63 ∷ []) r → Fed d (formulaText tray f) r
   unfolding formulaText formulaWithin
-  no-record h e = rw (le-leb 1280 f h) e
+  no-record h e = rw (le-leb mostFormulas f h) e
 
   pub a-comment : {d r : Digest} → f ≡ 65535 → Fed d (35 ∷ []) r → Fed d (formulaOrComment tray f) r
   unfolding formulaOrComment
@@ -96,11 +97,11 @@ module _ (tray : List ℕ) (f : ℕ) where
   unfolding formulaOrComment
   no-comment h e = rw (ne-eqb f 65535 h) e
 
-  module _ {kind left right : ℕ} (known : f < 1280) (l : LinksAt tray f kind left right) where
+  module _ {kind left right : ℕ} (known : f < mostFormulas) (l : LinksAt tray f kind left right) where
     text-by : formulaText tray f ≡ recordBy (formulaText tray) f kind left right
     unfolding formulaText formulaWithin
     text-by =
-        rw (lt-leb 1280 f known, l .kindAt, l .leftAt, l .rightAt)
+        rw (lt-leb mostFormulas f known, l .kindAt, l .leftAt, l .rightAt)
         (record-same (formulaWithin f tray) (λ g. formulaWithin (suc g) tray g) f _ _ _ (λ g h. within-more f (suc g) tray g h (omega arith)))
 
     module _ {d a : Digest} (n : Fed d (nameOf kind left) a) where

@@ -6,6 +6,7 @@ use native.Mathlib.Omega.{arith}
 use native.Mathlib.Nat.{pow-suc, div-div-eq-div-mul, div-one, sub-zero}
 use lib.ListN.{length, getD}
 use borrow.Author.Tests.{le-leb, lt-leb, eq-eqb, ne-eqb}
+use Rattle.definition.specs.Limits.{mostIdentifiers, nodeLength, edgeTrayLength}
 use Rattle.definition.specs.Lists.{upFrom, below, concatMap}
 use Rattle.cases.specs.declared.digest.Digest.{Digest}
 use Rattle.cases.specs.Bytes.{twoAt}
@@ -97,17 +98,17 @@ row-end {u} {bits} {rest} {v} {d} h b = end (edge u bits) 32 d v h (b .lines)
 
 -- ---- the nodes, and the edges of all worlds
 abbrev pub node : List ℕ → List ℕ → ℕ → List ℕ
-node nodes formulas i = nodeLine nodes formulas (12 * i)
+node nodes formulas i = nodeLine nodes formulas (nodeLength * i)
 
 abbrev pub world : List ℕ → ℕ → List ℕ
 world edges u = edgesFrom u (getD edges u 0)
 
-pub nodes-end : (nodes formulas : List ℕ) (identifiers i : ℕ) {text : Digest} → min identifiers 512 ≤ i
-    → Left (node nodes formulas) (min identifiers 512) (record { first = 0; second = 0 }) text i → text ≡ digestOf (nodeLines nodes formulas identifiers)
+pub nodes-end : (nodes formulas : List ℕ) (identifiers i : ℕ) {text : Digest} → min identifiers mostIdentifiers ≤ i
+    → Left (node nodes formulas) (min identifiers mostIdentifiers) (record { first = 0; second = 0 }) text i → text ≡ digestOf (nodeLines nodes formulas identifiers)
 unfolding digestOf nodeLines
-nodes-end nodes formulas identifiers i h l = end (node nodes formulas) (min identifiers 512) _ i h l .is
+nodes-end nodes formulas identifiers i h l = end (node nodes formulas) (min identifiers mostIdentifiers) _ i h l .is
 
 pub worlds-end : (nodes formulas edges : List ℕ) (identifiers u : ℕ) {d text : Digest} → d ≡ digestOf (nodeLines nodes formulas identifiers)
-    → min 25 (length edges) ≤ u → Left (world edges) (min 25 (length edges)) d text u → text ≡ digestOf (textOf nodes formulas edges identifiers)
+    → min edgeTrayLength (length edges) ≤ u → Left (world edges) (min edgeTrayLength (length edges)) d text u → text ≡ digestOf (textOf nodes formulas edges identifiers)
 unfolding digestOf textOf edgeLines
-worlds-end nodes formulas edges identifiers u e h l = and-then (record { is = e }) (end (world edges) (min 25 (length edges)) _ u h l) .is
+worlds-end nodes formulas edges identifiers u e h l = and-then (record { is = e }) (end (world edges) (min edgeTrayLength (length edges)) _ u h l) .is

@@ -4,6 +4,7 @@ use mathlib.Core.List.{List}
 use Prim.Native.Nat.{ℕ, _+_, min}
 use lib.Dec.{eqb, leb, ltb}
 use lib.ListN.{length, getD, drop, replicate}
+use Rattle.definition.specs.Limits.{nodeTrayLength, formulaTrayLength, edgeTrayLength}
 use Rattle.definition.specs.Trays.{Trays}
 use Rattle.definition.specs.Call.{Answer, refusal, verdict, answer, traysLeft}
 use Rattle.cases.specs.Bytes.{none, startOf, endOf, numberOf, hexAfter, written, decoded}
@@ -81,9 +82,13 @@ answerDiffers e branch (verdict v) t =
     (verdictDiffers e (v .proved) (v .late) (v .identifiers) (v .worlds) (v .steps))
     (traysDiffer e branch (v .identifiers) (v .formulas) (v .worlds) t)
 
+-- so many bytes are lent beyond a tray, and one number beyond the edges
+abbrev pub margin : ℕ
+margin = 6
+
 -- longer than asked, and every bit of them is 1
 unfoldable pub lentTrays : Trays
-lentTrays = record { nodes = replicate 6150 255; formulas = replicate 7686 255; edges = replicate 26 4294967295 }
+lentTrays = record { nodes = replicate (nodeTrayLength + margin) 255; formulas = replicate (formulaTrayLength + margin) 255; edges = replicate (edgeTrayLength + 1) 4294967295 }
 
 unfoldable pub callDiffers : Expected → List ℕ → ℕ → Difference
 callDiffers e branch flags = answerDiffers e branch (answer branch flags lentTrays) (traysLeft branch flags lentTrays)

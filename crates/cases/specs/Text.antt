@@ -5,6 +5,7 @@ use mathlib.Core.Bool.{Bool, cond, _||_}
 use mathlib.Core.List.{List, [], _∷_, _++_}
 use lib.Dec.{eqb, leb, ltb}
 use lib.ListN.{length, getD}
+use Rattle.definition.specs.Limits.{recordLength, mostIdentifiers, nodeLength, mostFormulas, edgeTrayLength}
 use Rattle.definition.specs.Lists.{below, concatMap}
 use Rattle.cases.specs.Bytes.{twoAt}
 use Rattle.cases.specs.declared.digest.Digest.{Digest}
@@ -61,16 +62,16 @@ recordBy text f kind left right =
 
 -- kind and links in the record of formula f
 pub record LinksAt (tray : List ℕ) (f kind left right : ℕ) : Type 0 where
-  pub kindAt : kind ≡ getD tray (6 * f) 0
-  pub leftAt : left ≡ twoAt tray (6 * f + 2)
-  pub rightAt : right ≡ twoAt tray (6 * f + 4)
+  pub kindAt : kind ≡ getD tray (recordLength * f) 0
+  pub leftAt : left ≡ twoAt tray (recordLength * f + 2)
+  pub rightAt : right ≡ twoAt tray (recordLength * f + 4)
 
 -- `?` if there is no such record; the first argument bounds the depth, which is at most f since links go down
 unfoldable pub formulaWithin : ℕ → List ℕ → ℕ → List ℕ
 formulaWithin zero tray f = 63 ∷ []
 formulaWithin (suc k) tray f =
-    cond (leb 1280 f) (63 ∷ [])
-    (recordBy (formulaWithin k tray) f (getD tray (6 * f) 0) (twoAt tray (6 * f + 2)) (twoAt tray (6 * f + 4)))
+    cond (leb mostFormulas f) (63 ∷ [])
+    (recordBy (formulaWithin k tray) f (getD tray (recordLength * f) 0) (twoAt tray (recordLength * f + 2)) (twoAt tray (recordLength * f + 4)))
 
 unfoldable pub formulaText : List ℕ → ℕ → List ℕ
 formulaText tray f = formulaWithin (suc f) tray f
@@ -94,7 +95,7 @@ nodeLine nodes formulas at =
     ∷ numberOrNone (twoAt nodes (at + 6)) ∷ numberOrNone (twoAt nodes (at + 8)) ∷ []))
 
 unfoldable pub nodeLines : List ℕ → List ℕ → ℕ → List ℕ
-nodeLines nodes formulas identifiers = concatMap (λ i. nodeLine nodes formulas (12 * i)) (below (min identifiers 512))
+nodeLines nodes formulas identifiers = concatMap (λ i. nodeLine nodes formulas (nodeLength * i)) (below (min identifiers mostIdentifiers))
 
 -- ---- edges
 -- FROM>TO, if the lowest bit is set
@@ -106,7 +107,7 @@ unfoldable pub edgesFrom : ℕ → ℕ → List ℕ
 edgesFrom u bits = concatMap (λ v. edgeLine u v (bits / 2 ^ v)) (below 32)
 
 unfoldable pub edgeLines : List ℕ → List ℕ
-edgeLines edges = concatMap (λ u. edgesFrom u (getD edges u 0)) (below (min 25 (length edges)))
+edgeLines edges = concatMap (λ u. edgesFrom u (getD edges u 0)) (below (min edgeTrayLength (length edges)))
 
 unfoldable pub textOf : List ℕ → List ℕ → List ℕ → ℕ → List ℕ
 textOf nodes formulas edges identifiers = nodeLines nodes formulas identifiers ++ edgeLines edges

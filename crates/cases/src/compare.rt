@@ -11,12 +11,18 @@ use crate::lent::are_zero;
 use crate::lent::edges_agree;
 use crate::lent::formulas_agree;
 use crate::lent::nodes_agree;
+use limits::EDGE_TRAY_LENGTH;
+use limits::FORMULA_TRAY_LENGTH;
+use limits::NODE_TRAY_LENGTH;
 use prover::Answer;
 use prover::prove;
 ghost use mathlib.Core.Path.{_≡_};
 ghost use Rattle.prover.specs.Contract.{trays};
 ghost use Rattle.prover.specs.Said.{said};
 ghost use Rattle.cases.specs.Compared.{expectedOf, verdictLetter, countsDiffer, digestDiffers, traysDiffer, fullDiffers, verdictDiffers, answerDiffers, callDiffers, differenceOf};
+
+// So many bytes are lent beyond a tray, and one number beyond the edges.
+const MARGIN: usize = 6;
 
 // What differs.
 pub enum Difference {
@@ -220,9 +226,9 @@ fn compare_answer(
 fn compare_call(e: Expected, branch: &[u8], flags: u8) -> Difference
     ensures { λ r. ⌜ r ≡ callDiffers e (now (branch .entry)) flags ⌝ }
 {
-    let mut nodes = [255u8; 6150];
-    let mut formulas = [255u8; 7686];
-    let mut edges = [4294967295u32; 26];
+    let mut nodes = [255u8; NODE_TRAY_LENGTH + MARGIN];
+    let mut formulas = [255u8; FORMULA_TRAY_LENGTH + MARGIN];
+    let mut edges = [4294967295u32; EDGE_TRAY_LENGTH + 1];
     let answer = prove(branch, flags, &mut nodes, &mut formulas, &mut edges);
     compare_answer(e, branch, answer, &nodes, &formulas, &edges)
 }

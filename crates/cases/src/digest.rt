@@ -2,10 +2,16 @@
 use crate::bytes::byte;
 use crate::bytes::two;
 use crate::bytes::wide;
+use limits::EDGE_TRAY_LENGTH;
+use limits::MOST_FORMULAS;
+use limits::MOST_IDENTIFIERS;
+use limits::NODE_LENGTH;
+use limits::RECORD_LENGTH;
 ghost use mathlib.Core.Path.{_≡_};
 ghost use mathlib.Core.List.{[], _∷_, _++_};
 ghost use Prim.Native.Nat.{_+_, _%_, _<_};
 ghost use lib.ListN.{getD};
+ghost use Rattle.definition.specs.Limits.{mostFormulas};
 ghost use Rattle.cases.specs.Bytes.{twoAt};
 ghost use Rattle.cases.specs.Text.{Fed, digestOf, decimal, numberOrNone, letterOf, hasOne, nameOf, LinksAt, formulaText, formulaOrComment, nodeLine, nodeLines, edgeLine, edgesFrom, textOf};
 
@@ -87,10 +93,10 @@ struct Links {
 }
 
 fn links_of(tray: &[u8], f: usize) -> Links
-    requires { ⌜ f < 1280 ⌝ }
+    requires { ⌜ f < mostFormulas ⌝ }
     ensures { λ r. ⌜ LinksAt (now (tray .entry)) f (r .kind) (r .left) (r .right) ⌝ }
 {
-    let at = 6 * f;
+    let at = RECORD_LENGTH * f;
     Links {
         kind: byte(tray, at),
         left: two(tray, at + 2),
@@ -112,7 +118,7 @@ fn name(d: Digest, kind: u8, left: usize) -> Digest
 fn formula(d: Digest, tray: &[u8], f: usize) -> Digest
     ensures { λ r. ⌜ Fed d (formulaText (now (tray .entry)) f) r ⌝ }
 {
-    if 1280 <= f {
+    if MOST_FORMULAS <= f {
         return add(d, b'?');
     }
     let l = links_of(tray, f);
@@ -207,10 +213,10 @@ fn node_lines(nodes: &[u8], formulas: &[u8], identifiers: usize) -> Digest
     };
     let mut i: usize = 0;
     while i < identifiers {
-        if 512 <= i {
+        if MOST_IDENTIFIERS <= i {
             return text;
         }
-        text = node_line(text, nodes, formulas, 12 * i);
+        text = node_line(text, nodes, formulas, NODE_LENGTH * i);
         i += 1;
     }
     text
@@ -222,7 +228,7 @@ pub fn of_trays(nodes: &[u8], formulas: &[u8], edges: &[u32], identifiers: usize
 {
     let mut text = node_lines(nodes, formulas, identifiers);
     let mut u: usize = 0;
-    while u < 25 {
+    while u < EDGE_TRAY_LENGTH {
         if edges.len() <= u {
             return text;
         }

@@ -3,8 +3,16 @@ use crate::bytes::all;
 use crate::bytes::begins;
 use crate::bytes::byte;
 use crate::bytes::two;
+use limits::EDGE_TRAY_LENGTH;
+use limits::FORMULA_TRAY_LENGTH;
+use limits::MOST_FORMULAS;
+use limits::MOST_IDENTIFIERS;
+use limits::NODE_LENGTH;
+use limits::NODE_TRAY_LENGTH;
+use limits::RECORD_LENGTH;
 ghost use mathlib.Core.Path.{_≡_};
 ghost use Prim.Native.Nat.{_≤_};
+ghost use Rattle.definition.specs.Limits.{mostIdentifiers, mostFormulas};
 ghost use Rattle.cases.specs.Lent.{isMarked, areMarked, areMade, isEnded, nodesAgree, formulasAgree, unusedRow, edgesAgree, areZero};
 
 // Byte 10 of the node at a position says whether it has a contrarian; byte 11 is 0.
@@ -24,12 +32,12 @@ fn is_marked(nodes: &[u8], at: usize) -> bool
 }
 
 fn are_marked(nodes: &[u8], identifiers: usize) -> bool
-    requires { ⌜ identifiers ≤ 512 ⌝ }
+    requires { ⌜ identifiers ≤ mostIdentifiers ⌝ }
     ensures { λ r. ⌜ r ≡ areMarked (now (nodes .entry)) identifiers ⌝ }
 {
     let mut i: usize = 0;
     while i < identifiers {
-        if !is_marked(nodes, 12 * i) {
+        if !is_marked(nodes, NODE_LENGTH * i) {
             return false;
         }
         i += 1;
@@ -39,12 +47,12 @@ fn are_marked(nodes: &[u8], identifiers: usize) -> bool
 
 // Made formulas have mark 0.
 fn are_made(formulas: &[u8], from: usize, to: usize) -> bool
-    requires { ⌜ to ≤ 1280 ⌝ }
+    requires { ⌜ to ≤ mostFormulas ⌝ }
     ensures { λ r. ⌜ r ≡ areMade (now (formulas .entry)) from to ⌝ }
 {
     let mut i = from;
     while i < to {
-        if byte(formulas, 6 * i + 1) != 0 {
+        if byte(formulas, RECORD_LENGTH * i + 1) != 0 {
             return false;
         }
         i += 1;
@@ -65,11 +73,11 @@ fn is_ended(tray: &[u8], used: usize, size: usize) -> bool
 pub fn nodes_agree(nodes: &[u8], identifiers: usize) -> bool
     ensures { λ r. ⌜ r ≡ nodesAgree (now (nodes .entry)) identifiers ⌝ }
 {
-    if 512 < identifiers {
+    if MOST_IDENTIFIERS < identifiers {
         return false;
     }
     if are_marked(nodes, identifiers) {
-        return is_ended(nodes, 12 * identifiers, 6144);
+        return is_ended(nodes, NODE_LENGTH * identifiers, NODE_TRAY_LENGTH);
     }
     false
 }
@@ -77,14 +85,14 @@ pub fn nodes_agree(nodes: &[u8], identifiers: usize) -> bool
 pub fn formulas_agree(formulas: &[u8], branch: &[u8], count: usize) -> bool
     ensures { λ r. ⌜ r ≡ formulasAgree (now (formulas .entry)) (now (branch .entry)) count ⌝ }
 {
-    if 1280 < count {
+    if MOST_FORMULAS < count {
         return false;
     }
     if !begins(formulas, branch) {
         return false;
     }
-    if are_made(formulas, branch.len() / 6, count) {
-        return is_ended(formulas, 6 * count, 7680);
+    if are_made(formulas, branch.len() / RECORD_LENGTH, count) {
+        return is_ended(formulas, RECORD_LENGTH * count, FORMULA_TRAY_LENGTH);
     }
     false
 }
@@ -93,7 +101,7 @@ pub fn formulas_agree(formulas: &[u8], branch: &[u8], count: usize) -> bool
 fn unused_row(u: usize) -> u32
     ensures { λ r. ⌜ r ≡ unusedRow u ⌝ }
 {
-    if u < 25 { 0 } else { 4294967295 }
+    if u < EDGE_TRAY_LENGTH { 0 } else { 4294967295 }
 }
 
 // The rows from the first that is no world are 0, and what lies beyond the tray is as it was lent.
@@ -114,10 +122,10 @@ pub fn edges_agree(edges: &[u32], worlds: usize) -> bool
 pub fn are_zero(nodes: &[u8], formulas: &[u8], edges: &[u32]) -> bool
     ensures { λ r. ⌜ r ≡ areZero (now (nodes .entry)) (now (formulas .entry)) (now (edges .entry)) ⌝ }
 {
-    if !is_ended(nodes, 0, 6144) {
+    if !is_ended(nodes, 0, NODE_TRAY_LENGTH) {
         return false;
     }
-    if !is_ended(formulas, 0, 7680) {
+    if !is_ended(formulas, 0, FORMULA_TRAY_LENGTH) {
         return false;
     }
     edges_agree(edges, 0)

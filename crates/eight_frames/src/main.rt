@@ -1,6 +1,6 @@
 // Eight Frames: records on standard input, a line for each of the flags 0 to 7 on standard output.
 fn main() {
-    let mut kept = [0u8; 1547];
+    let mut kept = [0u8; frames::KEPT_LENGTH];
     let mut text = [0u8; 768];
     frames::run(&mut kept, &mut text);
 }

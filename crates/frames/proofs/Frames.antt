@@ -16,7 +16,7 @@ use Rattle.prover.specs.declared.Answer.{Answer}
 use Rattle.frames.specs.Line.{lineOf}
 use Rattle.frames.specs.Lines.{linesBelow, eightLines, Printed}
 use Rattle.frames.specs.Put.{Put}
-use Rattle.frames.specs.Window.{Window, Windowed}
+use Rattle.frames.specs.Window.{windowLength, keptLength, Window, Windowed}
 use Rattle.frames.proofs.Answering.{answer-lengths, answer-overlong}
 use Rattle.frames.proofs.Texts.{put-put, put-counts}
 use Rattle.frames.proofs.Windows.{within, window-exact, window-over}
@@ -40,11 +40,11 @@ lines-next branch flags p q = rw (add-one flags) (put-put p q)
 pub lines-all : {text now : List ℕ} {r : ℕ} (branch : List ℕ) (flags : ℕ) → Put text 0 (linesBelow flags branch) now r → flags ≡ 8 → Counts r now × (take r now ≡ eightLines branch)
 lines-all branch flags p e = (put-counts p, p .holds ∙ ap (λ (n : ℕ). linesBelow n branch) e)
 
-answer-window : (whole kept : List ℕ) (seen flags : ℕ) (lent : Trays) → 1547 ≤ length kept → Window whole kept seen → answer (take seen kept) flags lent ≡ answer whole flags lent
+answer-window : (whole kept : List ℕ) (seen flags : ℕ) (lent : Trays) → keptLength ≤ length kept → Window whole kept seen → answer (take seen kept) flags lent ≡ answer whole flags lent
 answer-window whole kept seen flags lent size w =
     ⊎-elim
-    (λ (h : length whole ≤ 1536). ap (λ (s : List ℕ). answer s flags lent) (w .bytes h))
-    (λ (h : 1536 < length whole).
+    (λ (h : length whole ≤ windowLength). ap (λ (s : List ℕ). answer s flags lent) (w .bytes h))
+    (λ (h : windowLength < length whole).
     let known = w .counted ∙ window-over (length whole) h in
     answer-overlong whole (take seen kept) flags lent h (length-take-le seen kept (omega arith) ∙ known))
     (within (length whole))

@@ -11,46 +11,47 @@ use lib.Dec.{leb}
 use lib.ListN.{length, take, length-append}
 use lib.Seq.{paste, take-length, take-paste, length-paste, length-take-le}
 use Rattle.io.specs.Counts.{Counts}
-use Rattle.frames.specs.Window.{window, keptWith, Window, Windowed}
+use Rattle.definition.specs.Limits.{recordLength}
+use Rattle.frames.specs.Window.{windowLength, overLength, keptLength, window, keptWith, Window, Windowed}
 
-pub within : (n : ℕ) → (n ≤ 1536) ⊎ (1536 < n)
-within n = go (leb n 1536) refl
+pub within : (n : ℕ) → (n ≤ windowLength) ⊎ (windowLength < n)
+within n = go (leb n windowLength) refl
   where
-    go : (b : Bool) → leb n 1536 ≡ b → (n ≤ 1536) ⊎ (1536 < n)
-    go true e = inl (leb-true n 1536 e)
-    go false e = inr (leb-false n 1536 e)
+    go : (b : Bool) → leb n windowLength ≡ b → (n ≤ windowLength) ⊎ (windowLength < n)
+    go true e = inl (leb-true n windowLength e)
+    go false e = inr (leb-false n windowLength e)
 
-pub window-exact : (n : ℕ) → n ≤ 1536 → window n ≡ n
+pub window-exact : (n : ℕ) → n ≤ windowLength → window n ≡ n
 unfolding window
-window-exact n h = rw (le-leb n 1536 h)
+window-exact n h = rw (le-leb n windowLength h)
 
-pub window-over : (n : ℕ) → 1536 < n → window n ≡ 1542 + n % 6
+pub window-over : (n : ℕ) → windowLength < n → window n ≡ overLength + n % recordLength
 unfolding window
-window-over n h = rw (lt-leb n 1536 h)
+window-over n h = rw (lt-leb n windowLength h)
 
-pub window-sum : (a n : ℕ) → 1536 < a + n → 1542 + (a % 6 + n % 6) % 6 ≡ window (a + n)
-window-sum a n h = ap (λ (k : ℕ). 1542 + k) (sym (add-mod a n 6)) ∙ sym (window-over (a + n) h)
+pub window-sum : (a n : ℕ) → windowLength < a + n → overLength + (a % recordLength + n % recordLength) % recordLength ≡ window (a + n)
+window-sum a n h = ap (λ (k : ℕ). overLength + k) (sym (add-mod a n recordLength)) ∙ sym (window-over (a + n) h)
 
 -- a count kept in the window and added to says the same as the whole count
 pub window-window : (a n : ℕ) → window (window a + n) ≡ window (a + n)
 window-window a n =
     ⊎-elim
-    (λ (h : a ≤ 1536). ap (λ (k : ℕ). window (k + n)) (window-exact a h))
-    (λ (h : 1536 < a).
+    (λ (h : a ≤ windowLength). ap (λ (k : ℕ). window (k + n)) (window-exact a h))
+    (λ (h : windowLength < a).
     ap (λ (k : ℕ). window (k + n)) (window-over a h)
-    ∙ window-over (1542 + a % 6 + n) (omega arith)
-    ∙ ap (λ (k : ℕ). 1542 + k) (omega arith)
+    ∙ window-over (overLength + a % recordLength + n) (omega arith)
+    ∙ ap (λ (k : ℕ). overLength + k) (omega arith)
     ∙ sym (window-over (a + n) (omega arith)))
     (within a)
 
-window-most : (n : ℕ) → window n ≤ 1547
+window-most : (n : ℕ) → window n ≤ keptLength
 window-most n =
-    ⊎-elim (λ (h : n ≤ 1536). omega (arith, window-exact n h)) (λ (h : 1536 < n). omega (arith, window-over n h)) (within n)
+    ⊎-elim (λ (h : n ≤ windowLength). omega (arith, window-exact n h)) (λ (h : windowLength < n). omega (arith, window-over n h)) (within n)
 
 window-none : (kept : List ℕ) → Window [] kept 0
 window-none kept = record { counted = sym (window-exact 0 (omega arith)); bytes = λ h. refl }
 
-kept-exact : (whole kept part : List ℕ) (seen : ℕ) → 1547 ≤ length kept → Window whole kept seen → length whole + length part ≤ 1536
+kept-exact : (whole kept part : List ℕ) (seen : ℕ) → keptLength ≤ length kept → Window whole kept seen → length whole + length part ≤ windowLength
     → take (window (seen + length part)) (keptWith kept seen part) ≡ whole ++ part
 unfolding keptWith
 kept-exact whole kept part seen size w h =
@@ -63,7 +64,7 @@ kept-exact whole kept part seen size w h =
     ∙ ap (λ (s : List ℕ). whole ++ s) (take-length part))
 
 -- what is kept of the whole and a further part is kept of both together
-pub window-next : (whole kept part : List ℕ) (seen : ℕ) → 1547 ≤ length kept → Window whole kept seen
+pub window-next : (whole kept part : List ℕ) (seen : ℕ) → keptLength ≤ length kept → Window whole kept seen
     → Window (whole ++ part) (keptWith kept seen part) (window (seen + length part))
 window-next whole kept part seen size w =
     record {
@@ -81,7 +82,7 @@ length-kept kept part seen h =
     (omega (arith, min-le-left (length kept - seen) (length part)))
     (min-le-right (length kept - seen) (length part))
 
-pub windowed-none : (kept : List ℕ) → 1547 ≤ length kept → Windowed kept 0
+pub windowed-none : (kept : List ℕ) → keptLength ≤ length kept → Windowed kept 0
 windowed-none kept h = record { enough = h; whole = []; held = window-none kept }
 
 windowed-most : (kept : List ℕ) (seen : ℕ) → Windowed kept seen → seen ≤ length kept

@@ -7,12 +7,26 @@ ghost use Rattle.io.specs.Counts.{Counts};
 ghost use Rattle.definition.specs.Trays.{zeroTrays};
 ghost use Rattle.definition.specs.Call.{answer};
 ghost use Rattle.prover.specs.Said.{said};
-ghost use Rattle.frames.specs.Window.{window, keptWith, Windowed, Reads, ReadsMore};
+ghost use Rattle.frames.specs.Window.{keptLength, window, keptWith, Windowed, Reads, ReadsMore};
 ghost use Rattle.frames.specs.Line.{lineOf, lineOfWords, refusedWord, wordOf, decimalOf};
 ghost use Rattle.frames.specs.Lines.{eightLines, Runs};
 ghost use Rattle.frames.specs.Put.{Put};
+use limits::EDGE_TRAY_LENGTH;
+use limits::FORMULA_TRAY_LENGTH;
+use limits::MOST_RECORDS;
+use limits::NODE_TRAY_LENGTH;
+use limits::RECORD_LENGTH;
 use prover::Answer;
 use prover::prove;
+
+// The bytes of the longest branch.
+const WINDOW_LENGTH: usize = RECORD_LENGTH * MOST_RECORDS;
+
+// The least count that stands for a longer input.
+const OVER_LENGTH: usize = WINDOW_LENGTH + RECORD_LENGTH;
+
+// So many bytes are kept of an input: no count is greater.
+pub const KEPT_LENGTH: usize = OVER_LENGTH + RECORD_LENGTH - 1;
 
 // What came of reading: an error, or how many bytes have been seen.
 enum Input {
@@ -34,17 +48,17 @@ enum More {
     Seen { seen: usize },
 }
 
-// The count of bytes seen, with n more. It is exact up to 1,536 (256 records); beyond that it is
-// the one of 1,542 to 1,547 that has the same remainder by 6, and so the same answer.
+// The count of bytes seen, with n more. It is exact up to WINDOW_LENGTH; beyond that it is the one
+// from OVER_LENGTH to KEPT_LENGTH that has the same remainder by RECORD_LENGTH, and so the same answer.
 fn add(seen: usize, n: usize) -> usize
     ensures { λ r. ⌜ r ≡ window (seen + n) ⌝ }
 {
-    if seen <= 1536 {
-        if n <= 1536 - seen {
+    if seen <= WINDOW_LENGTH {
+        if n <= WINDOW_LENGTH - seen {
             return seen + n;
         }
     }
-    1542 + (seen % 6 + n % 6) % 6
+    OVER_LENGTH + (seen % RECORD_LENGTH + n % RECORD_LENGTH) % RECORD_LENGTH
 }
 
 // How many of n bytes have room after those seen, of so many in all.
@@ -96,7 +110,7 @@ fn read_more(kept: &mut [u8], seen: usize) -> More
 // Reads standard input to its end. A proved loop has to end, and nothing says that the input does:
 // the reads are counted, and after 2^64 - 1 of them, which no input reaches, it is a read error.
 fn read_all(kept: &mut [u8]) -> Input
-    requires { ⌜ 1547 ≤ length (now kept) ⌝ }
+    requires { ⌜ keptLength ≤ length (now kept) ⌝ }
     ensures { λ r. ⌜ Reads (now (kept .exit)) r ⌝ }
 {
     let mut seen: usize = 0;
@@ -214,9 +228,9 @@ fn put_frame(text: &mut [u8], at: usize, branch: &[u8], flags: u8) -> usize
     ensures { λ r. ⌜ Put (now (text .entry)) at (lineOf flags (answer (now (branch .entry)) flags zeroTrays)) (now (text .exit)) r ⌝ }
     ensures { λ r. ⌜ r ≤ at + 96 ⌝ }
 {
-    let mut nodes = [0u8; 6144];
-    let mut formulas = [0u8; 7680];
-    let mut edges = [0u32; 25];
+    let mut nodes = [0u8; NODE_TRAY_LENGTH];
+    let mut formulas = [0u8; FORMULA_TRAY_LENGTH];
+    let mut edges = [0u32; EDGE_TRAY_LENGTH];
     let answer = prove(branch, flags, &mut nodes, &mut formulas, &mut edges);
     put_line(text, at, flags, answer)
 }
@@ -253,7 +267,7 @@ fn print(text: &[u8], printed: usize) -> bool
 
 // Reads standard input and prints its eight lines. An error is reported on standard error; after a
 // read error nothing is printed on standard output.
-pub fn run(kept: &mut [u8; 1547], text: &mut [u8; 768]) -> Ran
+pub fn run(kept: &mut [u8; KEPT_LENGTH], text: &mut [u8; 768]) -> Ran
     ensures { λ r. ⌜ Runs (now (kept .exit)) (now (text .exit)) r ⌝ }
 {
     match read_all(kept) {

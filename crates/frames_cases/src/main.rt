@@ -1,4 +1,8 @@
 // Further cases of Eight Frames: a title, then the eight lines.
+use limits::EDGE_TRAY_LENGTH;
+use limits::FORMULA_TRAY_LENGTH;
+use limits::NODE_TRAY_LENGTH;
+use limits::RECORD_LENGTH;
 use prover::prove;
 
 fn write(text: &[u8]) {
@@ -19,7 +23,7 @@ fn show_bytes(title: &[u8], branch: &[u8], n: usize) {
 // The same of the first n records.
 fn show(title: &[u8], branch: &[u8], n: usize) {
     if n < 1000 {
-        show_bytes(title, branch, 6 * n);
+        show_bytes(title, branch, RECORD_LENGTH * n);
     }
 }
 
@@ -42,7 +46,7 @@ fn put(branch: &mut [u8], n: usize, kind: u8, mark: u8, left: usize, right: usiz
     if 300 < n {
         return n;
     }
-    let at = 6 * n;
+    let at = RECORD_LENGTH * n;
     put_byte(branch, at, kind);
     put_byte(branch, at + 1, mark);
     put_field(branch, at + 2, left);
@@ -166,9 +170,9 @@ fn show_both(branch: &mut [u8]) {
 // What Eight Frames never asks: flags above 15, and trays that are too short.
 fn show_call(title: &[u8], flags: u8, size: usize) {
     let atom = [0u8, 1, 0, 0, 0, 0];
-    let mut nodes = [0u8; 6144];
-    let mut formulas = [0u8; 7680];
-    let mut edges = [0u32; 25];
+    let mut nodes = [0u8; NODE_TRAY_LENGTH];
+    let mut formulas = [0u8; FORMULA_TRAY_LENGTH];
+    let mut edges = [0u32; EDGE_TRAY_LENGTH];
     let mut text = [0u8; 96];
     let lent: &mut [u8] = &mut nodes;
     if lent.len() < size {
@@ -181,7 +185,7 @@ fn show_call(title: &[u8], flags: u8, size: usize) {
 }
 
 fn main() {
-    let mut branch = [0u8; 1547];
+    let mut branch = [0u8; frames::KEPT_LENGTH];
     let view: &mut [u8] = &mut branch;
     show_lengths(view);
     show_fields(view);
@@ -189,7 +193,7 @@ fn main() {
     show_ors(view);
     show_late(view);
     show_both(view);
-    show_call(b"bad tick\n", 16, 6144);
-    show_call(b"short tray\n", 0, 6143);
-    show_call(b"skipping\n", 8, 6144);
+    show_call(b"bad tick\n", 16, NODE_TRAY_LENGTH);
+    show_call(b"short tray\n", 0, NODE_TRAY_LENGTH - 1);
+    show_call(b"skipping\n", 8, NODE_TRAY_LENGTH);
 }

@@ -1,6 +1,6 @@
-// Eight Frames on a branch whose runs issue exactly 512 identifiers.
+// Eight Frames on a branch whose runs issue as many identifiers as there may be.
 fn main() {
-    let mut kept = [0u8; 1547];
+    let mut kept = [0u8; frames::KEPT_LENGTH];
     let mut text = [0u8; 768];
     frames::run(&mut kept, &mut text);
 }

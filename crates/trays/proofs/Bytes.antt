@@ -6,6 +6,7 @@ use mathlib.Core.List.{List, [], _∷_, _++_}
 use mathlib.Core.Logic.{_⊎_, inl, inr}
 use native.Mathlib.Omega.{arith}
 use lib.ListN.{length}
+use Rattle.definition.specs.Limits.{mostIdentifiers}
 use Rattle.definition.specs.Lists.{Each}
 use Rattle.definition.specs.Records.{Kind, Rec, Atomic, Non, And, Or, Imply, BiImply, StrictImply, Possible, Necessary, Unknown, Comment, numberOf}
 use Rattle.definition.specs.Tree.{Node, Place, Root, Left, Middle, Right, Unplaced, placeNumber, isContradictory, nodeAt}
@@ -59,7 +60,7 @@ unfolding recordBytes
 record-bytes r a b c d = rw (a, b, c, d)
 
 -- node i, under the identifier that the sequence has for it
-pub node-put : (ns : List Node) {x i at next : ℕ} {a b : List ℕ} → x ≡ idAt i → i < 512 → Each (λ (n : Node). n .world < 256) ns → i < length ns
+pub node-put : (ns : List Node) {x i at next : ℕ} {a b : List ℕ} → x ≡ idAt i → i < mostIdentifiers → Each (λ (n : Node). n .world < 256) ns → i < length ns
     → (nodeAt ns x .world < 256 → Puts (nodeBytes (nodeAt ns x)) at a next b) → Puts (nodeBytes (nodeAt ns i)) at a next b
 node-put ns {x} {i} {at} {next} {a} {b} e few worlds low f =
     let same = e ∙ id-fits i few in

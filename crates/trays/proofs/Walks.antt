@@ -29,8 +29,10 @@ use denote.Signature.{Slot, plain, mutSlice, mutSliceOf, namedLft}
 use denote.Signature.Struct.{structAt}
 use denote.Struct.Laws as LL
 use denote.Triple.Walked.{Stay, Stays, Fields, stay-none, stay-none-ref, stay-dropped, stay-struct-at, stay-declared, Goes, AllGo, goes-none, goes-none-ref, goes-spent-slice, goes-struct-at, goes-declared}
+use Rattle.definition.specs.Limits.{mostIdentifiers}
 use Rattle.definition.specs.Tree.{Node, nodeAt}
 use Rattle.definition.specs.Trays.{nodeBytes}
+use Rattle.limits.specs.Arrays.{nodeCells}
 use Rattle.tree.specs.Lay.{lay}
 use Rattle.tree.specs.declared.ProofTreeNodeID.{ProofTreeNodeID}
 use Rattle.tree.proofs.ProofTreeNodeID as N
@@ -54,7 +56,7 @@ mach s n = vstruct (vcons s (vcons (vint w64 n) vnil))
 
 -- ---- the parameters that are passed on
 abbrev pub TreeRef : Lft → RattleType
-TreeRef κ = ShrRef (named 1) κ (Array u16 tt 4608)
+TreeRef κ = ShrRef (named 1) κ (Array u16 tt nodeCells)
 
 abbrev pub node-val : ProofTreeNodeID → Val
 node-val x = LL.val N.the-type N′.the-laws x
@@ -63,20 +65,20 @@ abbrev pub Rest : Lft → RefT (List ℕ) → ProofTreeNodeID → Fml
 Rest κ t x = owns (TreeRef κ ∷ N.the-row ∷ []) (t, (x, tt)) (ptr-vals t, (node-val x ∷ [], tt))
 
 abbrev passed : List (Slot 2)
-passed = RefOf (1 ∷ []) tt (ArrayOf (plain (λ _. u16)) (λ _. tt) 4608) (λ _. tt) ∷ plain (λ _. N.the-row) ∷ []
+passed = RefOf (1 ∷ []) tt (ArrayOf (plain (λ _. u16)) (λ _. tt) nodeCells) (λ _. tt) ∷ plain (λ _. N.the-row) ∷ []
 
 abbrev pub rest-stays : Stays passed (yes, (yes, tt))
-rest-stays = (stay-none-ref (1 ∷ []) tt (ArrayOf (plain (λ _. u16)) (λ _. tt) 4608) yes, (stay-none (λ _. N.the-row) yes, tt))
+rest-stays = (stay-none-ref (1 ∷ []) tt (ArrayOf (plain (λ _. u16)) (λ _. tt) nodeCells) yes, (stay-none (λ _. N.the-row) yes, tt))
 
 abbrev pub rest-vals : (κ : Lft) → Spells (TreeRef κ ∷ N.the-row ∷ [])
 rest-vals κ = (ptr-vals, (LL.vals N.the-type N′.the-laws, tt))
 
 abbrev pub rest-tells : (κ : Lft) → Tellss (TreeRef κ ∷ N.the-row ∷ []) (Ises (TreeRef κ ∷ N.the-row ∷ [])) (rest-vals κ)
-rest-tells κ = (shr-tells (named 1) κ (Array u16 tt 4608), (LL.tells N.the-type N′.the-laws, tt))
+rest-tells κ = (shr-tells (named 1) κ (Array u16 tt nodeCells), (LL.tells N.the-type N′.the-laws, tt))
 
 -- ---- what is said of a record
 abbrev pub OfNode : RefT (List ℕ) → ProofTreeNodeID → (List ℕ → Type 0) → Type 0
-OfNode t x P = (ns : List Node) → length ns ≤ 512 → now t ≡ lay ns → nodeAt ns (x .0) .world < 256 → P (nodeBytes (nodeAt ns (x .0)))
+OfNode t x P = (ns : List Node) → length ns ≤ mostIdentifiers → now t ≡ lay ns → nodeAt ns (x .0) .world < 256 → P (nodeBytes (nodeAt ns (x .0)))
 
 abbrev pub AppendsNode : NodeWriter → RefT (List ℕ) → ProofTreeNodeID → NodeWriter → Type 0
 AppendsNode h t x r = SameTray h r × OfNode t x (λ bs. Appends bs h r)
@@ -109,11 +111,11 @@ module _ {M : Type 1} (𝓤 : URA M) (H : Heap 𝓤) (A : Atoms 𝓤) (W : Given
       (goes-struct-at 𝓤 H A W 2 name (named 0 ∷ []) slots no spends (goes-spent-slice 𝓤 H A W 2 (0 ∷ []) tt (plain (λ _. u8)), (goes-none 𝓤 H A W 2 (λ _. usize) no (λ κs x f. refl), tt)))
 
   pub rest-goes : AllGo 𝓤 H A W 2 passed (yes, (yes, tt)) rest-stays
-  rest-goes = (goes-none-ref 𝓤 H A W 2 (1 ∷ []) tt (ArrayOf (plain (λ _. u16)) (λ _. tt) 4608) yes, (goes-none 𝓤 H A W 2 (λ _. N.the-row) yes (λ κs x f. refl), tt))
+  rest-goes = (goes-none-ref 𝓤 H A W 2 (1 ∷ []) tt (ArrayOf (plain (λ _. u16)) (λ _. tt) nodeCells) yes, (goes-none 𝓤 H A W 2 (λ _. N.the-row) yes (λ κs x f. refl), tt))
 
   pub rest-twice : (κ : Lft) (t : RefT (List ℕ)) (x : ProofTreeNodeID) → ent 𝓤 (sem 𝓤 H A (Rest κ t x)) (sep 𝓤 (sem 𝓤 H A (Rest κ t x)) (sem 𝓤 H A (Rest κ t x)))
   rest-twice κ t x =
-      qed W (‵ (Rest κ t x) ∷ []) ∵ fsplit ! $ use1 W (‵ (TreeRef κ .own t (ptr-vals t)) ⊛ ‵ (TreeRef κ .own t (ptr-vals t))) (shr-copy 𝓤 H A W (named 1) κ (Array u16 tt 4608) .twice t (ptr-vals t)) $ split ! $
+      qed W (‵ (Rest κ t x) ∷ []) ∵ fsplit ! $ use1 W (‵ (TreeRef κ .own t (ptr-vals t)) ⊛ ‵ (TreeRef κ .own t (ptr-vals t))) (shr-copy 𝓤 H A W (named 1) κ (Array u16 tt nodeCells) .twice t (ptr-vals t)) $ split ! $
       move ! (2 ∷ []) $ fsplit ! $ use1 W (‵ (N.the-row .own x (node-val x ∷ [])) ⊛ ‵ (N.the-row .own x (node-val x ∷ []))) (LL.copy N.the-type N′.the-copy 𝓤 H A W .twice x (node-val x ∷ [])) $ split ! $
       -- [x's; x's; true; the tree's; the tree's]
       move ! (0 ∷ 2 ∷ []) $ fjoin ! $ move ! (2 ∷ 0 ∷ []) $ fjoin ! $ frame ! $ nothing ! $ move ! (1 ∷ 0 ∷ []) $ fjoin ! $ move ! (1 ∷ 0 ∷ []) $ fjoin ! $ done !

@@ -7,6 +7,15 @@ use formula::mark_at;
 use formula::right_at;
 use graph::PossibleWorld;
 use graph::contains;
+use limits::EDGE_TRAY_LENGTH;
+use limits::Edges;
+use limits::FORMULA_TRAY_LENGTH;
+use limits::Formulas;
+use limits::GRAPH_WIDTH;
+use limits::MOST_FORMULAS;
+use limits::MOST_IDENTIFIERS;
+use limits::NODE_TRAY_LENGTH;
+use limits::Nodes;
 use slices::low;
 use slices::put;
 use slices::put_two;
@@ -26,7 +35,7 @@ ghost use mathlib.Core.List.{List, [], map};
 ghost use mathlib.Core.Logic.{_⊎_};
 ghost use Prim.Native.Nat.{_≤_, _<_};
 ghost use lib.ListN.{length, getD, replicate};
-ghost use Rattle.definition.specs.Limits.{nodeTrayLength, formulaTrayLength, edgeTrayLength};
+ghost use Rattle.definition.specs.Limits.{mostIdentifiers, mostFormulas, graphWidth, nodeTrayLength, formulaTrayLength, edgeTrayLength};
 ghost use Rattle.definition.specs.Lists.{Each, concatMap, padded};
 ghost use Rattle.definition.specs.Records.{Rec, recAt};
 ghost use Rattle.definition.specs.Tree.{Node, Place, placeNumber, nodeAt};
@@ -58,8 +67,8 @@ fn bit(set: bool) -> u8
 }
 
 // The record of node x, 12 bytes.
-fn put_node(tray: &mut [u8], at: usize, tree: &[u16; 4608], x: ProofTreeNodeID) -> usize
-    ensures { λ r. ⌜ ((ns : List Node) → length ns ≤ 512 → now (tree .entry) ≡ lay ns → nodeAt ns (x .0) .world < 256
+fn put_node(tray: &mut [u8], at: usize, tree: &Nodes, x: ProofTreeNodeID) -> usize
+    ensures { λ r. ⌜ ((ns : List Node) → length ns ≤ mostIdentifiers → now (tree .entry) ≡ lay ns → nodeAt ns (x .0) .world < 256
         → Puts (nodeBytes (nodeAt ns (x .0))) at (now (tray .entry)) r (now (tray .exit))) ⌝ }
 {
     let parent = parent_of(tree, x);
@@ -93,8 +102,8 @@ fn writer<'a>(tray: &'a mut [u8], at: usize) -> NodeWriter<'a>
 }
 
 // The record of node x is appended: the writer is handed back at the position after it.
-fn append<'a>(w: NodeWriter<'a>, tree: &[u16; 4608], x: ProofTreeNodeID) -> NodeWriter<'a>
-    ensures { λ r. ⌜ SameTray (w .entry) r × ((ns : List Node) → length ns ≤ 512 → now (tree .entry) ≡ lay ns → nodeAt ns (x .0) .world < 256
+fn append<'a>(w: NodeWriter<'a>, tree: &Nodes, x: ProofTreeNodeID) -> NodeWriter<'a>
+    ensures { λ r. ⌜ SameTray (w .entry) r × ((ns : List Node) → length ns ≤ mostIdentifiers → now (tree .entry) ≡ lay ns → nodeAt ns (x .0) .world < 256
         → Appends (nodeBytes (nodeAt ns (x .0))) (w .entry) r) ⌝ }
 {
     let at = w.at;
@@ -106,8 +115,8 @@ fn append<'a>(w: NodeWriter<'a>, tree: &[u16; 4608], x: ProofTreeNodeID) -> Node
 }
 
 // The record of node x, appended by a writer.
-fn append_node(tray: &mut [u8], at: usize, tree: &[u16; 4608], x: ProofTreeNodeID) -> usize
-    ensures { λ r. ⌜ ((ns : List Node) → length ns ≤ 512 → now (tree .entry) ≡ lay ns → nodeAt ns (x .0) .world < 256
+fn append_node(tray: &mut [u8], at: usize, tree: &Nodes, x: ProofTreeNodeID) -> usize
+    ensures { λ r. ⌜ ((ns : List Node) → length ns ≤ mostIdentifiers → now (tree .entry) ≡ lay ns → nodeAt ns (x .0) .world < 256
         → Puts (nodeBytes (nodeAt ns (x .0))) at (now (tray .entry)) r (now (tray .exit))) ⌝ }
 {
     let w = append(writer(tray, at), tree, x);
@@ -116,15 +125,15 @@ fn append_node(tray: &mut [u8], at: usize, tree: &[u16; 4608], x: ProofTreeNodeI
 
 // The node tray: the records in order of identifier, then zeros.
 // In a short tray, or of more nodes than the limit, nothing is written.
-pub fn write_nodes(tray: &mut [u8], tree: &[u16; 4608], len: usize)
-    ensures { λ r. ⌜ ((ns : List Node) → length ns ≡ len → len ≤ 512 → now (tree .entry) ≡ lay ns → Each (λ (x : Node). x .world < 256) ns
-        → 6144 ≤ length (now (tray .entry)) → now (tray .exit) ≡ over (padded nodeTrayLength (concatMap nodeBytes ns)) (now (tray .entry)))
-        × ((length (now (tray .entry)) < 6144) ⊎ (512 < len) → now (tray .exit) ≡ now (tray .entry)) ⌝ }
+pub fn write_nodes(tray: &mut [u8], tree: &Nodes, len: usize)
+    ensures { λ r. ⌜ ((ns : List Node) → length ns ≡ len → len ≤ mostIdentifiers → now (tree .entry) ≡ lay ns → Each (λ (x : Node). x .world < 256) ns
+        → nodeTrayLength ≤ length (now (tray .entry)) → now (tray .exit) ≡ over (padded nodeTrayLength (concatMap nodeBytes ns)) (now (tray .entry)))
+        × ((length (now (tray .entry)) < nodeTrayLength) ⊎ (mostIdentifiers < len) → now (tray .exit) ≡ now (tray .entry)) ⌝ }
 {
-    if tray.len() < 6144 {
+    if tray.len() < NODE_TRAY_LENGTH {
         return;
     }
-    if 512 < len {
+    if MOST_IDENTIFIERS < len {
         return;
     }
     let mut at: usize = 0;
@@ -133,18 +142,18 @@ pub fn write_nodes(tray: &mut [u8], tree: &[u16; 4608], len: usize)
         at = append_node(tray, at, tree, id_at(i));
         i += 1;
     }
-    put_zeros(tray, at, 6144);
+    put_zeros(tray, at, NODE_TRAY_LENGTH);
 }
 
 // The record of formula f, 6 bytes.
 fn put_formula(
     tray: &mut [u8],
     at: usize,
-    formulas: &[u16; 5120],
+    formulas: &Formulas,
     count: usize,
     f: FormulaNumber,
 ) -> usize
-    ensures { λ r. ⌜ ((rs : List Rec) → Recorded rs count (now (formulas .entry)) → count ≤ 1280 → recAt rs (f .0) .mark < 256
+    ensures { λ r. ⌜ ((rs : List Rec) → Recorded rs count (now (formulas .entry)) → count ≤ mostFormulas → recAt rs (f .0) .mark < 256
         → Puts (recordBytes (recAt rs (f .0))) at (now (tray .entry)) r (now (tray .exit))) ⌝ }
 {
     let kind = kind_at(formulas, count, f);
@@ -159,15 +168,15 @@ fn put_formula(
 
 // The formula tray: the records, then zeros.
 // In a short tray, or of more records than the limit, nothing is written.
-pub fn write_formulas(tray: &mut [u8], formulas: &[u16; 5120], count: usize)
-    ensures { λ r. ⌜ ((rs : List Rec) → Recorded rs count (now (formulas .entry)) → count ≤ 1280 → Each (λ (r : Rec). r .mark < 256) rs
-        → 7680 ≤ length (now (tray .entry)) → now (tray .exit) ≡ over (padded formulaTrayLength (concatMap recordBytes rs)) (now (tray .entry)))
-        × ((length (now (tray .entry)) < 7680) ⊎ (1280 < count) → now (tray .exit) ≡ now (tray .entry)) ⌝ }
+pub fn write_formulas(tray: &mut [u8], formulas: &Formulas, count: usize)
+    ensures { λ r. ⌜ ((rs : List Rec) → Recorded rs count (now (formulas .entry)) → count ≤ mostFormulas → Each (λ (r : Rec). r .mark < 256) rs
+        → formulaTrayLength ≤ length (now (tray .entry)) → now (tray .exit) ≡ over (padded formulaTrayLength (concatMap recordBytes rs)) (now (tray .entry)))
+        × ((length (now (tray .entry)) < formulaTrayLength) ⊎ (mostFormulas < count) → now (tray .exit) ≡ now (tray .entry)) ⌝ }
 {
-    if tray.len() < 7680 {
+    if tray.len() < FORMULA_TRAY_LENGTH {
         return;
     }
-    if 1280 < count {
+    if MOST_FORMULAS < count {
         return;
     }
     let mut at: usize = 0;
@@ -176,18 +185,18 @@ pub fn write_formulas(tray: &mut [u8], formulas: &[u16; 5120], count: usize)
         at = put_formula(tray, at, formulas, count, FormulaNumber(i as u16));
         i += 1;
     }
-    put_zeros(tray, at, 7680);
+    put_zeros(tray, at, FORMULA_TRAY_LENGTH);
 }
 
 // The edge number of world u: bit v says that u reaches v. Zero of a number that is no world.
-fn edge_number(edges: &[u8; 625], worlds: usize, u: PossibleWorld) -> u32
-    ensures { λ r. ⌜ ((g : Graph) → Drawn g worlds (now (edges .entry)) → length (g .rows) ≡ g .worlds → length (getD (g .rows) (u .0) []) ≤ 25 → r ≡ rowNumber (getD (g .rows) (u .0) [])) ⌝ }
+fn edge_number(edges: &Edges, worlds: usize, u: PossibleWorld) -> u32
+    ensures { λ r. ⌜ ((g : Graph) → Drawn g worlds (now (edges .entry)) → length (g .rows) ≡ g .worlds → length (getD (g .rows) (u .0) []) ≤ graphWidth → r ≡ rowNumber (getD (g .rows) (u .0) [])) ⌝ }
 {
     if worlds <= u.0 as usize {
         return 0;
     }
     let mut n: u32 = 0;
-    let mut v: usize = 25;
+    let mut v: usize = GRAPH_WIDTH;
     while 0 < v {
         v -= 1;
         n = n * 2 + bit(contains(edges, u, PossibleWorld(v as u16))) as u32;
@@ -197,19 +206,19 @@ fn edge_number(edges: &[u8; 625], worlds: usize, u: PossibleWorld) -> u32
 
 // The edge tray: a number for each world, then zeros, since no edge starts at a number that is no world.
 // In a short tray, or of more worlds than the limit, nothing is written.
-pub fn write_edges(tray: &mut [u32], edges: &[u8; 625], worlds: usize)
+pub fn write_edges(tray: &mut [u32], edges: &Edges, worlds: usize)
     ensures { λ r. ⌜ ((g : Graph) → Drawn g worlds (now (edges .entry)) → length (g .rows) ≡ g .worlds → Each (λ (row : List Bool). length row ≡ g .worlds) (g .rows)
-        → 25 ≤ length (now (tray .entry)) → now (tray .exit) ≡ over (padded edgeTrayLength (map rowNumber (g .rows))) (now (tray .entry)))
-        × ((length (now (tray .entry)) < 25) ⊎ (25 < worlds) → now (tray .exit) ≡ now (tray .entry)) ⌝ }
+        → edgeTrayLength ≤ length (now (tray .entry)) → now (tray .exit) ≡ over (padded edgeTrayLength (map rowNumber (g .rows))) (now (tray .entry)))
+        × ((length (now (tray .entry)) < edgeTrayLength) ⊎ (graphWidth < worlds) → now (tray .exit) ≡ now (tray .entry)) ⌝ }
 {
-    if tray.len() < 25 {
+    if tray.len() < EDGE_TRAY_LENGTH {
         return;
     }
-    if 25 < worlds {
+    if GRAPH_WIDTH < worlds {
         return;
     }
     let mut u: usize = 0;
-    while u < 25 {
+    while u < EDGE_TRAY_LENGTH {
         tray[u] = edge_number(edges, worlds, PossibleWorld(u as u16));
         u += 1;
     }
@@ -225,14 +234,14 @@ pub fn clear(tray: &mut [u8], end: usize)
 
 // The edge tray zeroed; a short tray is left.
 pub fn clear_edges(tray: &mut [u32])
-    ensures { λ r. ⌜ (25 ≤ length (now (tray .entry)) → now (tray .exit) ≡ over (replicate edgeTrayLength 0) (now (tray .entry)))
-        × (length (now (tray .entry)) < 25 → now (tray .exit) ≡ now (tray .entry)) ⌝ }
+    ensures { λ r. ⌜ (edgeTrayLength ≤ length (now (tray .entry)) → now (tray .exit) ≡ over (replicate edgeTrayLength 0) (now (tray .entry)))
+        × (length (now (tray .entry)) < edgeTrayLength → now (tray .exit) ≡ now (tray .entry)) ⌝ }
 {
-    if tray.len() < 25 {
+    if tray.len() < EDGE_TRAY_LENGTH {
         return;
     }
     let mut world: usize = 0;
-    while world < 25 {
+    while world < EDGE_TRAY_LENGTH {
         tray[world] = 0;
         world += 1;
     }

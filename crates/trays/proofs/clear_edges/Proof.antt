@@ -4,22 +4,23 @@ use mathlib.Core.Path.{_≡_, refl, _∙_, ap}
 use mathlib.Core.List.{List, []}
 use native.Mathlib.Omega.{arith}
 use lib.ListN.{length}
+use Rattle.definition.specs.Limits.{edgeTrayLength}
 use Rattle.definition.specs.Trays.{over}
 use Rattle.slices.proofs.Writing.{Zeros, written-none, padded-none, zeros-start, zeros-next, zeros-end}
 use Rattle.trays.proofs.clear_edges.Statement.{statement}
 use Rattle.trays.proofs.clear_edges.Tie as tie
 
 abbrev Inv-loop : tie.InvT-loop
-Inv-loop tray₀ world₀ tray world = (length tray ≡ length tray₀) × (25 ≤ length tray₀ → Zeros 25 [] tray₀ world tray)
+Inv-loop tray₀ world₀ tray world = (length tray ≡ length tray₀) × (edgeTrayLength ≤ length tray₀ → Zeros edgeTrayLength [] tray₀ world tray)
 
 abbrev μ-loop : tie.MeasureT-loop
-μ-loop tray₀ world₀ tray world = 25 - world
+μ-loop tray₀ world₀ tray world = edgeTrayLength - world
 
 returns : tie.Need-returns Inv-loop μ-loop
 returns c = (λ r. absurd (omega (arith, c .if1 .taken)), λ z. refl)
 
 loop-holds : tie.Need-loop-holds Inv-loop μ-loop
-loop-holds c = (search needs, λ r. zeros-start 25 [] _ (omega arith) r (written-none _))
+loop-holds c = (search needs, λ r. zeros-start edgeTrayLength [] _ (omega arith) r (written-none _))
 
 mul-tray : tie.Need-mul-tray Inv-loop μ-loop
 mul-tray c = search needs
@@ -34,13 +35,13 @@ loop-less : tie.Need-loop-less Inv-loop μ-loop
 loop-less c = search needs
 
 loop-again : tie.Need-loop-again Inv-loop μ-loop
-loop-again c = (search needs, λ r. zeros-next 25 [] _ (omega arith) r _ (c .before .loop .inv .1 r) (c .loop-test .taken))
+loop-again c = (search needs, λ r. zeros-next edgeTrayLength [] _ (omega arith) r _ (c .before .loop .inv .1 r) (c .loop-test .taken))
 
 same-length : tie.Need-same-length Inv-loop μ-loop
 same-length c = search needs
 
 returns-2 : tie.Need-returns-2 Inv-loop μ-loop
-returns-2 c = (λ r. zeros-end 25 [] _ (omega arith) r _ (c .before .loop .inv .1 r) (c .loop-test .left) ∙ ap (λ (l : List ℕ). over l (c .before .before .before .args .tray .now)) (padded-none 25), λ z. absurd (omega (arith, c .before .before .if1 .left)))
+returns-2 c = (λ r. zeros-end edgeTrayLength [] _ (omega arith) r _ (c .before .loop .inv .1 r) (c .loop-test .left) ∙ ap (λ (l : List ℕ). over l (c .before .before .before .args .tray .now)) (padded-none edgeTrayLength), λ z. absurd (omega (arith, c .before .before .if1 .left)))
 
 pub clear-edges-spec : {M : Type 1} → statement M
 clear-edges-spec =

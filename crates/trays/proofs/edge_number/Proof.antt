@@ -3,6 +3,7 @@ use Prim.Native.Nat.{_≤_, _<_, _-_, _^_}
 use mathlib.Core.Path.{_≡_}
 use native.Mathlib.Omega.{arith}
 use lib.ListN.{length, drop}
+use Rattle.definition.specs.Limits.{graphWidth}
 use Rattle.definition.specs.Graph.{Graph}
 use Rattle.definition.specs.Trays.{rowNumber}
 use Rattle.graph.specs.Drawn.{Drawn}
@@ -11,7 +12,7 @@ use Rattle.trays.proofs.edge_number.Statement.{statement}
 use Rattle.trays.proofs.edge_number.Tie as tie
 
 abbrev Inv-loop : tie.InvT-loop
-Inv-loop edges worlds u n₀ v₀ n v = (v ≤ 25) × (n < 2 ^ (25 - v)) × ((g : Graph) → Drawn g worlds edges → length (rowOf g (u .0)) ≤ 25 → n ≡ rowNumber (drop v (rowOf g (u .0))))
+Inv-loop edges worlds u n₀ v₀ n v = (v ≤ graphWidth) × (n < 2 ^ (graphWidth - v)) × ((g : Graph) → Drawn g worlds edges → length (rowOf g (u .0)) ≤ graphWidth → n ≡ rowNumber (drop v (rowOf g (u .0))))
 
 abbrev μ-loop : tie.MeasureT-loop
 μ-loop edges worlds u n₀ v₀ n v = v

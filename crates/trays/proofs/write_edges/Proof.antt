@@ -4,6 +4,7 @@ use mathlib.Core.Bool.{Bool}
 use mathlib.Core.List.{List}
 use native.Mathlib.Omega.{arith}
 use lib.ListN.{length}
+use Rattle.definition.specs.Limits.{edgeTrayLength}
 use Rattle.definition.specs.Lists.{Each}
 use Rattle.definition.specs.Graph.{Graph}
 use Rattle.graph.specs.Drawn.{Drawn}
@@ -14,10 +15,10 @@ use Rattle.trays.proofs.write_edges.Statement.{statement}
 use Rattle.trays.proofs.write_edges.Tie as tie
 
 abbrev Inv-loop : tie.InvT-loop
-Inv-loop tray₀ edges worlds u₀ tray u = (length tray ≡ length tray₀) × ((g : Graph) → Drawn g worlds edges → length (g .rows) ≡ g .worlds → Each (λ (row : List Bool). length row ≡ g .worlds) (g .rows) → 25 ≤ length tray₀ → Edges g tray₀ u tray)
+Inv-loop tray₀ edges worlds u₀ tray u = (length tray ≡ length tray₀) × ((g : Graph) → Drawn g worlds edges → length (g .rows) ≡ g .worlds → Each (λ (row : List Bool). length row ≡ g .worlds) (g .rows) → edgeTrayLength ≤ length tray₀ → Edges g tray₀ u tray)
 
 abbrev μ-loop : tie.MeasureT-loop
-μ-loop tray₀ edges worlds u₀ tray u = 25 - u
+μ-loop tray₀ edges worlds u₀ tray u = edgeTrayLength - u
 
 returns : tie.Need-returns Inv-loop μ-loop
 returns c = (λ g d s h r. absurd (omega (arith, c .if1 .taken)), λ z. refl)

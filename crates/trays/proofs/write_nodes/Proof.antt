@@ -4,6 +4,7 @@ use mathlib.Core.Path.{_≡_, refl}
 use mathlib.Core.List.{List}
 use native.Mathlib.Omega.{arith}
 use lib.ListN.{length}
+use Rattle.definition.specs.Limits.{nodeLength}
 use Rattle.definition.specs.Lists.{Each, concatMap}
 use Rattle.definition.specs.Tree.{Node}
 use Rattle.definition.specs.Trays.{nodeBytes}
@@ -28,13 +29,13 @@ returns-2 : tie.Need-returns-2 Inv-loop μ-loop
 returns-2 c = (λ ns e l q h r. absurd (omega (arith, c .if2 .taken)), λ z. refl)
 
 loop-holds : tie.Need-loop-holds Inv-loop μ-loop
-loop-holds c = (search needs, λ ns e q h. parts-start nodeBytes 12 node-length ns _)
+loop-holds c = (search needs, λ ns e q h. parts-start nodeBytes nodeLength node-length ns _)
 
 loop-again : tie.Need-loop-again Inv-loop μ-loop
-loop-again c = (search needs, λ ns e q h. let i = c .before .before .before .before .before .before .loop .i in let low : i < length ns = omega (arith, c .before .before .before .before .before .loop-test .taken) in parts-next nodeBytes 12 node-length ns _ i (c .before .before .before .before .before .before .loop .inv .1 ns e q h) blank (omega arith) low (node-put ns (c .before .before .before .id-at .ensures) (omega (arith, low, e, c .before .before .before .before .before .before .before .if2 .left)) h low (c .before .before .append-node .ensures ns (omega (arith, e, c .before .before .before .before .before .before .before .if2 .left)) q)))
+loop-again c = (search needs, λ ns e q h. let i = c .before .before .before .before .before .before .loop .i in let low : i < length ns = omega (arith, c .before .before .before .before .before .loop-test .taken) in parts-next nodeBytes nodeLength node-length ns _ i (c .before .before .before .before .before .before .loop .inv .1 ns e q h) blank (omega arith) low (node-put ns (c .before .before .before .id-at .ensures) (omega (arith, low, e, c .before .before .before .before .before .before .before .if2 .left)) h low (c .before .before .append-node .ensures ns (omega (arith, e, c .before .before .before .before .before .before .before .if2 .left)) q)))
 
 returns-3 : tie.Need-returns-3 Inv-loop μ-loop
-returns-3 c = (λ ns e l q h r. c .before .before .put-zeros .ensures .0 (c .before .before .before .before .before .before .before .before .before .args .tray .now) (concatMap nodeBytes ns) (parts-end nodeBytes 12 node-length ns _ (c .before .before .before .before .before .loop .i) (c .before .before .before .before .before .loop .inv .1 ns e q h) (omega (arith, c .before .before .before .before .loop-test .left))) (omega (arith, length-parts 12 nodeBytes node-length ns)) r, not-kept (c .before .before .before .before .before .before .before .if1 .left) (c .before .before .before .before .before .before .if2 .left))
+returns-3 c = (λ ns e l q h r. c .before .before .put-zeros .ensures .0 (c .before .before .before .before .before .before .before .before .before .args .tray .now) (concatMap nodeBytes ns) (parts-end nodeBytes nodeLength node-length ns _ (c .before .before .before .before .before .loop .i) (c .before .before .before .before .before .loop .inv .1 ns e q h) (omega (arith, c .before .before .before .before .loop-test .left))) (omega (arith, length-parts nodeLength nodeBytes node-length ns)) r, not-kept (c .before .before .before .before .before .before .before .if1 .left) (c .before .before .before .before .before .before .if2 .left))
 
 pub write-nodes-spec : {M : Type 1} → statement M
 write-nodes-spec =

@@ -1,12 +1,13 @@
 use Prim.Native.Nat.{_-_, min}
 use native.Mathlib.Omega.{arith}
+use Rattle.definition.specs.Limits.{mostIdentifiers}
 use Rattle.cases.proofs.Lines.{Left, node, start, next, nodes-end}
 use borrow.Author.Needs.{needs}
 use Rattle.cases.proofs.digest.node_lines.Statement.{statement}
 use Rattle.cases.proofs.digest.node_lines.Tie as tie
 
 abbrev Inv-loop : tie.InvT-loop
-Inv-loop nodes formulas identifiers text₀ i₀ text i = Left (node nodes formulas) (min identifiers 512) text₀ text i
+Inv-loop nodes formulas identifiers text₀ i₀ text i = Left (node nodes formulas) (min identifiers mostIdentifiers) text₀ text i
 
 abbrev μ-loop : tie.MeasureT-loop
 μ-loop nodes formulas identifiers text₀ i₀ text i = identifiers - i

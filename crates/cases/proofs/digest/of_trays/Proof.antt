@@ -1,16 +1,17 @@
 use Prim.Native.Nat.{_-_, min}
 use native.Mathlib.Omega.{arith}
 use lib.ListN.{length}
+use Rattle.definition.specs.Limits.{edgeTrayLength}
 use Rattle.cases.proofs.Lines.{Left, world, start, next, worlds-end}
 use borrow.Author.Needs.{needs}
 use Rattle.cases.proofs.digest.of_trays.Statement.{statement}
 use Rattle.cases.proofs.digest.of_trays.Tie as tie
 
 abbrev Inv-loop : tie.InvT-loop
-Inv-loop nodes formulas edges identifiers text₀ u₀ text u = Left (world edges) (min 25 (length edges)) text₀ text u
+Inv-loop nodes formulas edges identifiers text₀ u₀ text u = Left (world edges) (min edgeTrayLength (length edges)) text₀ text u
 
 abbrev μ-loop : tie.MeasureT-loop
-μ-loop nodes formulas edges identifiers text₀ u₀ text u = 25 - u
+μ-loop nodes formulas edges identifiers text₀ u₀ text u = edgeTrayLength - u
 
 node-lines-requires : tie.Need-node-lines-requires Inv-loop μ-loop
 node-lines-requires c κs = search needs

@@ -2,13 +2,14 @@ use Prim.Native.Nat.{_-_, _+_, _*_}
 use lib.Dec.{eqb}
 use lib.ListN.{getD}
 use borrow.Author.Needs.{needs}
+use Rattle.definition.specs.Limits.{recordLength}
 use Rattle.cases.specs.Lent.{areMade}
 use Rattle.cases.proofs.Between.{Passing, between-start, between-end, between-miss, between-next, read-equal, read-unequal}
 use Rattle.cases.proofs.lent.are_made.Statement.{statement}
 use Rattle.cases.proofs.lent.are_made.Tie as tie
 
 abbrev Inv-loop : tie.InvT-loop
-Inv-loop formulas from to i₀ i = Passing (λ j. eqb (getD formulas (6 * j + 1) 0) 0) from to i
+Inv-loop formulas from to i₀ i = Passing (λ j. eqb (getD formulas (recordLength * j + 1) 0) 0) from to i
 
 abbrev μ-loop : tie.MeasureT-loop
 μ-loop formulas from to i₀ i = to - i

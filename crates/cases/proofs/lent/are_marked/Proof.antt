@@ -2,13 +2,14 @@ use mathlib.Core.Path.{sym, _∙_}
 use Prim.Native.Nat.{_-_, _*_}
 use borrow.Author.Needs.{needs}
 use borrow.Author.Tests.{not-true, not-false}
+use Rattle.definition.specs.Limits.{nodeLength}
 use Rattle.cases.specs.Lent.{isMarked, areMarked}
 use Rattle.cases.proofs.Between.{Passing, between-start, between-end, between-miss, between-next}
 use Rattle.cases.proofs.lent.are_marked.Statement.{statement}
 use Rattle.cases.proofs.lent.are_marked.Tie as tie
 
 abbrev Inv-loop : tie.InvT-loop
-Inv-loop nodes identifiers i₀ i = Passing (λ j. isMarked nodes (12 * j)) 0 identifiers i
+Inv-loop nodes identifiers i₀ i = Passing (λ j. isMarked nodes (nodeLength * j)) 0 identifiers i
 
 abbrev μ-loop : tie.MeasureT-loop
 μ-loop nodes identifiers i₀ i = identifiers - i
