@@ -8,8 +8,9 @@ use native.Mathlib.Nat.{mul-add-mod-self-left}
 use lib.Dec.{eqb, ltb}
 use lib.ListN.{length, getD, List·getD-eq-default}
 use borrow.Author.Tests.{lt-ltb, le-ltb, ltb-false, eq-eqb, ne-eqb}
+use Rattle.slices.specs.Text.{decimalWithin, decimalOf}
 use Rattle.cases.specs.declared.digest.Digest.{Digest}
-use Rattle.cases.specs.Text.{fed, Fed, decimalWithin, decimal, numberOrNone}
+use Rattle.cases.specs.Text.{fed, Fed, numberOrNone}
 
 fed-append : (d : Digest) (xs ys : List ℕ) → fed d (xs ++ ys) ≡ fed (fed d xs) ys
 unfolding fed
@@ -55,28 +56,28 @@ within-more (suc k) (suc j) n h g =
     (cond-else (ltb n 10) [] (decimalWithin k (n / 10)) (decimalWithin j (n / 10))
     (λ q. within-more k j (n / 10) (omega (arith, ltb-false n 10 q)) (omega (arith, ltb-false n 10 q))))
 
-decimal-one : (n : ℕ) → n < 10 → decimal n ≡ (48 + n % 10) ∷ []
-unfolding decimal decimalWithin
+decimal-one : (n : ℕ) → n < 10 → decimalOf n ≡ (48 + n % 10) ∷ []
+unfolding decimalOf decimalWithin
 decimal-one zero h = refl
 decimal-one (suc n) h = rw (lt-ltb (suc n) 10 h)
 
-decimal-more : (n : ℕ) → 10 ≤ n → decimal n ≡ decimal (n / 10) ++ ((48 + n % 10) ∷ [])
-unfolding decimal decimalWithin
+decimal-more : (n : ℕ) → 10 ≤ n → decimalOf n ≡ decimalOf (n / 10) ++ ((48 + n % 10) ∷ [])
+unfolding decimalOf decimalWithin
 decimal-more zero h = absurd (omega arith)
 decimal-more (suc n) h =
     rw (le-ltb (suc n) 10 h)
     (ap (λ (s : List ℕ). s ++ ((48 + suc n % 10) ∷ [])) (within-more n (suc n / 10) (suc n / 10) (omega arith) (omega arith)))
 
-pub one-figure : {d r : Digest} (n : ℕ) → n < 10 → Fed d ((48 + n % 10) ∷ []) r → Fed d (decimal n) r
+pub one-figure : {d r : Digest} (n : ℕ) → n < 10 → Fed d ((48 + n % 10) ∷ []) r → Fed d (decimalOf n) r
 one-figure n h e = rw (decimal-one n h) e
 
-pub more-figures : {d r q : Digest} (n : ℕ) → 10 ≤ n → Fed d (decimal (n / 10)) r → Fed r ((48 + n % 10) ∷ []) q → Fed d (decimal n) q
+pub more-figures : {d r q : Digest} (n : ℕ) → 10 ≤ n → Fed d (decimalOf (n / 10)) r → Fed r ((48 + n % 10) ∷ []) q → Fed d (decimalOf n) q
 more-figures n h e g = rw (decimal-more n h) (and-then e g)
 
 pub dash : {d r : Digest} (n : ℕ) → n ≡ 65535 → Fed d (45 ∷ []) r → Fed d (numberOrNone n) r
 unfolding numberOrNone
 dash n h e = rw (eq-eqb n 65535 h) e
 
-pub some-number : {d r : Digest} (n : ℕ) → (n ≡ 65535 → ⊥) → Fed d (decimal n) r → Fed d (numberOrNone n) r
+pub some-number : {d r : Digest} (n : ℕ) → (n ≡ 65535 → ⊥) → Fed d (decimalOf n) r → Fed d (numberOrNone n) r
 unfolding numberOrNone
 some-number n h e = rw (ne-eqb n 65535 h) e

@@ -8,9 +8,10 @@ use lib.Dec.{eqb, leb, ltb}
 use lib.ListN.{getD, List·getD-eq-default}
 use borrow.Author.Tests.{lt-ltb, le-ltb, ltb-true, eq-eqb, ne-eqb, le-leb, lt-leb}
 use Rattle.definition.specs.Limits.{mostFormulas}
+use Rattle.slices.specs.Text.{decimalOf}
 use Rattle.cases.specs.declared.digest.Digest.{Digest}
 use Rattle.cases.specs.Bytes.{twoAt}
-use Rattle.cases.specs.Text.{Fed, decimal, letterOf, hasOne, nameOf, LinksAt, linked, recordBy, formulaWithin, formulaText, formulaOrComment}
+use Rattle.cases.specs.Text.{Fed, letterOf, hasOne, nameOf, LinksAt, linked, recordBy, formulaWithin, formulaText, formulaOrComment}
 use Rattle.cases.proofs.Fed.{and-then}
 
 -- ---- kinds
@@ -45,7 +46,7 @@ pub above-two : (kind : ℕ) → 7 ≤ kind → true ≡ hasOne kind
 unfolding hasOne
 above-two kind h = rw (le-ltb kind 2 (omega arith), lt-ltb 6 kind (omega arith))
 
-pub atom-name : {d a r : Digest} (kind left : ℕ) → kind ≡ 0 → Fed d (65 ∷ []) a → Fed a (decimal left) r → Fed d (nameOf kind left) r
+pub atom-name : {d a r : Digest} (kind left : ℕ) → kind ≡ 0 → Fed d (65 ∷ []) a → Fed a (decimalOf left) r → Fed d (nameOf kind left) r
 unfolding nameOf
 atom-name kind left z e h = rw (eq-eqb kind 0 z) (and-then e h)
 

@@ -1,16 +1,17 @@
 -- Words of a line, and lines one after the other.
 use Prim.Native.Nat.{ℕ, zero, suc, _+_, _*_, _-_, _/_, _%_, _^_, _≤_, _<_, min}
 use mathlib.Core.Path.{_≡_, refl, sym, ap, subst, _∙_}
-use mathlib.Core.List.{List, [], _∷_, _++_, append-assoc}
+use mathlib.Core.List.{List, [], _∷_, _++_}
 use native.Mathlib.Omega.{arith}
 use native.Mathlib.Nat.{pow-suc, div-div-eq-div-mul, div-one, sub-zero}
 use lib.ListN.{length, getD}
 use borrow.Author.Tests.{le-leb, lt-leb, eq-eqb, ne-eqb}
 use Rattle.definition.specs.Limits.{mostIdentifiers, nodeLength, edgeTrayLength}
 use Rattle.definition.specs.Lists.{upFrom, below, concatMap}
+use Rattle.slices.specs.Text.{decimalOf, lineOfWords}
 use Rattle.cases.specs.declared.digest.Digest.{Digest}
 use Rattle.cases.specs.Bytes.{twoAt}
-use Rattle.cases.specs.Text.{fed, Fed, digestOf, decimal, numberOrNone, formulaOrComment, lineOf, nodeLine, nodeLines, edgeLine, edgesFrom, edgeLines, textOf}
+use Rattle.cases.specs.Text.{fed, Fed, digestOf, numberOrNone, formulaOrComment, nodeLine, nodeLines, edgeLine, edgesFrom, edgeLines, textOf}
 use Rattle.cases.proofs.Fed.{fed-none, and-then}
 
 -- ---- one line
@@ -18,7 +19,7 @@ pub no-edge : (d : Digest) (u v bits : ℕ) → (bits % 2 ≡ 1 → ⊥) → Fed
 unfolding edgeLine
 no-edge d u v bits h = rw (ne-eqb (bits % 2) 1 h) (fed-none d)
 
-pub an-edge : {d r s t q : Digest} (u v bits : ℕ) → bits % 2 ≡ 1 → Fed d (decimal u) r → Fed r (62 ∷ []) s → Fed s (decimal v) t → Fed t (10 ∷ []) q
+pub an-edge : {d r s t q : Digest} (u v bits : ℕ) → bits % 2 ≡ 1 → Fed d (decimalOf u) r → Fed r (62 ∷ []) s → Fed s (decimalOf v) t → Fed t (10 ∷ []) q
     → Fed d (edgeLine u v bits) q
 unfolding edgeLine
 an-edge u v bits h a b c e = rw (eq-eqb (bits % 2) 1 h) (and-then a (and-then b (and-then c e)))
@@ -28,25 +29,20 @@ unfolding nodeLine
 no-node d nodes formulas at h = rw (le-leb (length nodes) at h) (fed-none d)
 
 -- ---- the fields of a node
-pub byte-field : {d a r : Digest} {n m : ℕ} → n ≡ m → Fed d (decimal n) a → Fed a (32 ∷ []) r → Fed d (decimal m ++ (32 ∷ [])) r
+pub byte-field : {d a r : Digest} {n m : ℕ} → n ≡ m → Fed d (decimalOf n) a → Fed a (32 ∷ []) r → Fed d (decimalOf m ++ (32 ∷ [])) r
 byte-field n e h = rw (← n) (and-then e h)
 
 pub link-field : {d a r : Digest} {n m end : ℕ} → n ≡ m → Fed d (numberOrNone n) a → Fed a (end ∷ []) r → Fed d (numberOrNone m ++ (end ∷ [])) r
 link-field n e h = rw (← n) (and-then e h)
 
--- a word, what ends it, and more
-ended : {d r q : Digest} {ys : List ℕ} (w : List ℕ) (b : ℕ) → Fed d (w ++ (b ∷ [])) r → Fed r ys q → Fed d (w ++ (b ∷ ys)) q
-ended {d} {r} {q} {ys} w b e h = rw (← append-assoc w (b ∷ []) ys) (and-then e h)
-
 pub a-node : {d a b c e f g r : Digest} {formula : ℕ} (nodes formulas : List ℕ) (at : ℕ) → at < length nodes
-    → Fed d (numberOrNone (twoAt nodes at) ++ (32 ∷ [])) a → Fed a (decimal (getD nodes (at + 2) 0) ++ (32 ∷ [])) b
-    → Fed b (decimal (getD nodes (at + 3) 0) ++ (32 ∷ [])) c → formula ≡ twoAt nodes (at + 4) → Fed c (formulaOrComment formulas formula) e
+    → Fed d (numberOrNone (twoAt nodes at) ++ (32 ∷ [])) a → Fed a (decimalOf (getD nodes (at + 2) 0) ++ (32 ∷ [])) b
+    → Fed b (decimalOf (getD nodes (at + 3) 0) ++ (32 ∷ [])) c → formula ≡ twoAt nodes (at + 4) → Fed c (formulaOrComment formulas formula) e
     → Fed e (32 ∷ []) f → Fed f (numberOrNone (twoAt nodes (at + 6)) ++ (32 ∷ [])) g → Fed g (numberOrNone (twoAt nodes (at + 8)) ++ (10 ∷ [])) r
     → Fed d (nodeLine nodes formulas at) r
-unfolding nodeLine lineOf
+unfolding nodeLine lineOfWords
 a-node nodes formulas at within a b c i e f g h =
-    rw (lt-leb (length nodes) at within, ← i) (ended (numberOrNone (twoAt nodes at)) 32 a (ended (decimal (getD nodes (at + 2) 0)) 32 b (ended (decimal (getD nodes (at + 3) 0)) 32 c
-    (and-then e (and-then f (ended (numberOrNone (twoAt nodes (at + 6))) 32 g h))))))
+    rw (lt-leb (length nodes) at within, ← i) (and-then a (and-then b (and-then c (and-then (and-then e f) (and-then g h)))))
 
 -- ---- lines: what is written after d, and the lines from i to below n that are left
 pub record Left (line : ℕ → List ℕ) (n : ℕ) (d text : Digest) (i : ℕ) : Type 0 where

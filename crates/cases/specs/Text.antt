@@ -7,6 +7,7 @@ use lib.Dec.{eqb, leb, ltb}
 use lib.ListN.{length, getD}
 use Rattle.definition.specs.Limits.{recordLength, mostIdentifiers, nodeLength, mostFormulas, edgeTrayLength}
 use Rattle.definition.specs.Lists.{below, concatMap}
+use Rattle.slices.specs.Text.{decimalOf, lineOfWords}
 use Rattle.cases.specs.Bytes.{twoAt}
 use Rattle.cases.specs.declared.digest.Digest.{Digest}
 
@@ -24,17 +25,9 @@ unfoldable pub digestOf : List ℕ → Digest
 digestOf = fed (record { first = 0; second = 0 })
 
 -- ---- numbers
--- in decimal: the last digit, after the digits of the tenth if there are more; the first argument bounds how many are in front
-unfoldable pub decimalWithin : ℕ → ℕ → List ℕ
-decimalWithin zero n = (48 + n % 10) ∷ []
-decimalWithin (suc k) n = cond (ltb n 10) [] (decimalWithin k (n / 10)) ++ ((48 + n % 10) ∷ [])
-
-unfoldable pub decimal : ℕ → List ℕ
-decimal n = decimalWithin n n
-
 -- `-` for none
 unfoldable pub numberOrNone : ℕ → List ℕ
-numberOrNone n = cond (eqb n 65535) (45 ∷ []) (decimal n)
+numberOrNone n = cond (eqb n 65535) (45 ∷ []) (decimalOf n)
 
 -- ---- formulas
 -- N C D I B S P L for the kinds 1 to 8
@@ -47,7 +40,7 @@ hasOne kind = ltb kind 2 || ltb 6 kind
 
 -- A<n>, or the letter
 unfoldable pub nameOf : ℕ → ℕ → List ℕ
-nameOf kind left = cond (eqb kind 0) (65 ∷ decimal left) (letterOf kind ∷ [])
+nameOf kind left = cond (eqb kind 0) (65 ∷ decimalOf left) (letterOf kind ∷ [])
 
 -- the rest of a record's text, from a link on; `?` if the link is not to an earlier record
 unfoldable pub linked : ℕ → ℕ → List ℕ → List ℕ
@@ -81,17 +74,12 @@ unfoldable pub formulaOrComment : List ℕ → ℕ → List ℕ
 formulaOrComment tray f = cond (eqb f 65535) (35 ∷ []) (formulaText tray f)
 
 -- ---- nodes
--- words with single spaces between them, ended by a newline
-unfoldable pub lineOf : List ℕ → List (List ℕ) → List ℕ
-lineOf w [] = w ++ (10 ∷ [])
-lineOf w (v ∷ vs) = w ++ (32 ∷ lineOf v vs)
-
 -- PARENT PLACE WORLD FORMULA SPAWNER CONTRARIAN of the record at a position; nothing beyond the tray
 unfoldable pub nodeLine : List ℕ → List ℕ → ℕ → List ℕ
 nodeLine nodes formulas at =
     cond (leb (length nodes) at) []
-    (lineOf (numberOrNone (twoAt nodes at)) (
-    decimal (getD nodes (at + 2) 0) ∷ decimal (getD nodes (at + 3) 0) ∷ formulaOrComment formulas (twoAt nodes (at + 4))
+    (lineOfWords (numberOrNone (twoAt nodes at)) (
+    decimalOf (getD nodes (at + 2) 0) ∷ decimalOf (getD nodes (at + 3) 0) ∷ formulaOrComment formulas (twoAt nodes (at + 4))
     ∷ numberOrNone (twoAt nodes (at + 6)) ∷ numberOrNone (twoAt nodes (at + 8)) ∷ []))
 
 unfoldable pub nodeLines : List ℕ → List ℕ → ℕ → List ℕ
@@ -100,7 +88,7 @@ nodeLines nodes formulas identifiers = concatMap (λ i. nodeLine nodes formulas 
 -- ---- edges
 -- FROM>TO, if the lowest bit is set
 unfoldable pub edgeLine : ℕ → ℕ → ℕ → List ℕ
-edgeLine u v bits = cond (eqb (bits % 2) 1) (decimal u ++ (62 ∷ (decimal v ++ (10 ∷ [])))) []
+edgeLine u v bits = cond (eqb (bits % 2) 1) (decimalOf u ++ (62 ∷ (decimalOf v ++ (10 ∷ [])))) []
 
 -- bit v of the number says that u reaches v
 unfoldable pub edgesFrom : ℕ → ℕ → List ℕ

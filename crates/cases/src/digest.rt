@@ -12,8 +12,9 @@ ghost use mathlib.Core.List.{[], _∷_, _++_};
 ghost use Prim.Native.Nat.{_+_, _%_, _<_};
 ghost use lib.ListN.{getD};
 ghost use Rattle.definition.specs.Limits.{mostFormulas};
+ghost use Rattle.slices.specs.Text.{decimalOf};
 ghost use Rattle.cases.specs.Bytes.{twoAt};
-ghost use Rattle.cases.specs.Text.{Fed, digestOf, decimal, numberOrNone, letterOf, hasOne, nameOf, LinksAt, formulaText, formulaOrComment, nodeLine, nodeLines, edgeLine, edgesFrom, textOf};
+ghost use Rattle.cases.specs.Text.{Fed, digestOf, numberOrNone, letterOf, hasOne, nameOf, LinksAt, formulaText, formulaOrComment, nodeLine, nodeLines, edgeLine, edgesFrom, textOf};
 
 pub struct Digest {
     pub first: u64,
@@ -40,7 +41,7 @@ fn figure(d: Digest, n: usize) -> Digest
 
 // A number in decimal.
 fn number(d: Digest, n: usize) -> Digest
-    ensures { λ r. ⌜ Fed d (decimal n) r ⌝ }
+    ensures { λ r. ⌜ Fed d (decimalOf n) r ⌝ }
 {
     if n < 10 {
         return figure(d, n);
@@ -150,7 +151,7 @@ fn formula_or_comment(d: Digest, tray: &[u8], f: usize) -> Digest
 
 // A byte as a number, and a space.
 fn small(d: Digest, tray: &[u8], i: usize) -> Digest
-    ensures { λ r. ⌜ Fed d (decimal (getD (now (tray .entry)) i 0) ++ (32 ∷ [])) r ⌝ }
+    ensures { λ r. ⌜ Fed d (decimalOf (getD (now (tray .entry)) i 0) ++ (32 ∷ [])) r ⌝ }
 {
     add(number(d, wide(byte(tray, i))), b' ')
 }

@@ -9,24 +9,27 @@ use borrow.Author.Tests.{lt-ltb, le-ltb, leb-true, leb-false}
 use lib.Dec.{ltb, leb}
 use lib.ListN.{length, take, length-append}
 use Rattle.io.specs.Digits.{glyph, digits, Fewest}
-use Rattle.frames.specs.Line.{decimalWithin, decimalOf}
+use Rattle.slices.specs.Text.{decimalWithin, decimalOf}
 
 pub power-above : (k : ℕ) → k < 10 ^ k
 power-above zero = omega arith
 power-above (suc k) = omega (arith, pow-suc 10 k, power-above k)
 
+digit : (n : ℕ) → glyph (n % 10) ≡ 48 + n % 10
+digit n = rw (lt-ltb (n % 10) 10 (omega arith))
+
 digits-within : (k f n : ℕ) → k ≤ f → n < 10 ^ suc k → (0 < k → 10 ^ k ≤ n) → digits 10 (suc k) n ≡ decimalWithin f n
 unfolding decimalWithin
-digits-within zero zero n h a b = refl
-digits-within zero (suc f) n h a b = rw (lt-ltb n 10 (omega arith))
+digits-within zero zero n h a b = rw (digit n)
+digits-within zero (suc f) n h a b = rw (digit n, lt-ltb n 10 (omega arith))
 digits-within (suc k) zero n h a b = absurd (omega arith)
 digits-within (suc k) (suc f) n h a b =
     let p : 10 ^ suc k ≡ 10 ^ k * 10 = pow-suc 10 k in
     let q : 10 ^ suc (suc k) ≡ 10 ^ suc k * 10 = pow-suc 10 (suc k) in
     let ten : 10 ^ suc k ≤ n = b (omega arith) in
     let some : 10 ≤ n = omega (arith, power-above k) in
-    rw (le-ltb n 10 some)
-    (ap (λ (s : List ℕ). s ++ (glyph (n % 10) ∷ [])) (digits-within k f (n / 10) (omega arith) (omega arith) (λ z. omega arith)))
+    rw (digit n, le-ltb n 10 some)
+    (ap (λ (s : List ℕ). s ++ ((48 + n % 10) ∷ [])) (digits-within k f (n / 10) (omega arith) (omega arith) (λ z. omega arith)))
 
 pub digits-decimal : (n k : ℕ) → Fewest 10 1 n k → digits 10 k n ≡ decimalOf n
 unfolding decimalOf

@@ -12,7 +12,8 @@ use Rattle.io.specs.Digits.{digits, Fewest}
 use Rattle.prover.specs.Said.{said}
 use Rattle.prover.specs.declared.Answer.{Answer}
 use Rattle.prover.specs.declared.Answer.the-variants.{Refusal, Verdict}
-use Rattle.frames.specs.Line.{decimalOf, wordOf, lineOfWords, lineOf, refusedWord}
+use Rattle.slices.specs.Text.{decimalOf, lineOfWords}
+use Rattle.frames.specs.Line.{wordOf, lineOf, refusedWord}
 use Rattle.frames.specs.Put.{Put}
 use Rattle.frames.specs.Window.{keptWith}
 use Rattle.frames.proofs.Decimals.{digits-decimal, length-decimal}

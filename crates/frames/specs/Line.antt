@@ -1,19 +1,9 @@
 -- The text of a line: "flags 0 to 7, verdict (open, proved, late, both), identifiers, worlds, steps. A refusal prints flags, `refused`, number, place."
-use mathlib.Core.Bool.{Bool, true, false, cond}
-use mathlib.Core.List.{List, [], _∷_, _++_}
-use Prim.Native.Nat.{ℕ, zero, suc, _/_, _%_}
-use lib.Dec.{ltb}
-use Rattle.io.specs.Digits.{glyph}
+use mathlib.Core.Bool.{Bool, true, false}
+use mathlib.Core.List.{List, [], _∷_}
+use Prim.Native.Nat.{ℕ}
 use Rattle.definition.specs.Call.{Answer, refusal, verdict}
-
--- a number's last digit, after the digits of its tenth if there are more; the first argument bounds how many are in front
-unfoldable pub decimalWithin : ℕ → ℕ → List ℕ
-decimalWithin zero n = glyph (n % 10) ∷ []
-decimalWithin (suc k) n = cond (ltb n 10) [] (decimalWithin k (n / 10)) ++ (glyph (n % 10) ∷ [])
-
--- a number in decimal digits, without zeros in front
-unfoldable pub decimalOf : ℕ → List ℕ
-decimalOf n = decimalWithin n n
+use Rattle.slices.specs.Text.{decimalOf, lineOfWords}
 
 -- "open", "proved", "late", "both", "refused" in ASCII
 abbrev pub openWord : List ℕ
@@ -37,11 +27,6 @@ wordOf false false = openWord
 wordOf true false = provedWord
 wordOf false true = lateWord
 wordOf true true = bothWord
-
--- words with single spaces between them, ended by a newline
-unfoldable pub lineOfWords : List ℕ → List (List ℕ) → List ℕ
-lineOfWords w [] = w ++ (10 ∷ [])
-lineOfWords w (v ∷ vs) = w ++ (32 ∷ []) ++ lineOfWords v vs
 
 unfoldable pub lineOf : ℕ → Answer → List ℕ
 lineOf flags (refusal number place) = lineOfWords (decimalOf flags) (refusedWord ∷ decimalOf number ∷ decimalOf place ∷ [])
