@@ -1,7 +1,7 @@
 -- The marks of the new leaves, one after the other, and what they tell.
 use Prim.Native.Nat.{ℕ, zero, suc, _+_, _-_, _<_, _≤_}
 use mathlib.Core.Path.{_≡_, refl, sym, ap, _∙_, subst}
-use mathlib.Core.Bool.{Bool, true, false, _&&_, and-true, and-assoc}
+use mathlib.Core.Bool.{Bool, true, false, _&&_, and-true, and-assoc, and-false}
 use mathlib.Core.List.{List, [], _∷_, _++_, map}
 use mathlib.Core.Option.{Option}
 use mathlib.Core.Logic.{_≢_}
@@ -41,10 +41,6 @@ code-loose Middle e h = absurd (omega (arith, e, h))
 code-loose Right e h = absurd (omega (arith, e, h))
 code-loose Unplaced e h = refl
 
-and-false : (b : Bool) {c : Bool} → c ≡ false → (b && c) ≡ false
-and-false true e = e
-and-false false e = refl
-
 module _ (rs : List Rec) (t : List Node) (x : ℕ) {len : ℕ} {a : List ℕ} (h : Held t len a) where
   not-bare : bareAt t x ≡ false → Held (mark t (pairAt rs t x)) len a × (true ≡ closedAt rs t x)
   unfolding mark
@@ -54,7 +50,7 @@ module _ (rs : List Rec) (t : List Node) (x : ℕ) {len : ℕ} {a : List ℕ} (h
   path-loose e q = not-bare (ap (λ (b : Bool). b && isLeaf (nodeAt t x .children)) (code-loose (nodeAt t x .place) e q))
 
   pub path-inner : {b : Bool} → b ≡ isLeaf (nodeAt t x .children) → b ≡ false → Held (mark t (pairAt rs t x)) len a × (true ≡ closedAt rs t x)
-  path-inner e q = not-bare (and-false (placed (nodeAt t x .place)) (sym e ∙ q))
+  path-inner e q = not-bare (rw (sym e ∙ q) (and-false (placed (nodeAt t x .place))))
 
 pub path-marked : (rs : List Rec) (t : List Node) (x : ℕ) (o : Option Pair) {len v : ℕ} {a z : List ℕ} {b r : Bool} → Held t len a → v ≡ placeCode (nodeAt t x .place) → v ≢ 65535 →
     b ≡ isLeaf (nodeAt t x .children) → b ≡ true → (In (spots t) x → o ≡ pairOf rs t x) → Held (mark t o) len z → r ≡ isPair o → Held (mark t (pairAt rs t x)) len z × (r ≡ closedAt rs t x)

@@ -1,7 +1,7 @@
 -- The search of a path for a pair.
 use Prim.Native.Nat.{ℕ, zero, suc, _+_, _-_, _<_, _≤_}
 use mathlib.Core.Path.{_≡_, refl, sym, ap, _∙_, subst}
-use mathlib.Core.Bool.{Bool, true, false, cond, not, _&&_, _||_}
+use mathlib.Core.Bool.{Bool, true, false, cond, not, _&&_, _||_, and-false}
 use mathlib.Core.List.{List, [], _∷_, _++_, reverse, reverse-append}
 use mathlib.Core.Option.{Option, none, some, Option·map}
 use mathlib.Core.Logic.{_⊎_, inl, inr, ⊎-elim, _≢_}
@@ -146,10 +146,6 @@ module _ (rs : List Rec) (t : List Node) (x : ℕ) where
       ap (Option·map (pair x)) (sym (nothing-found (λ y.
       let q = formulaOf rs (nodeAt t y .formula) in
       rw (no-atoms (said rs p) s (denied rs q) .0, no-atoms (denied rs p) d (said rs q) .1) (and-false (eqb (nodeAt t x .world) (nodeAt t y .world)))) (earlier t x)))
-    where
-      and-false : (b : Bool) → (b && false) ≡ false
-      and-false true = refl
-      and-false false = refl
 
 -- ---- the loop of `get_contradictory_node_ids`: the pair of the leaf is that of cur, which is in the tree or its root's parent
 pub record Searching (rs : List Rec) (t : List Node) (old leaf cur len k : ℕ) : Type 0 where

@@ -8,7 +8,7 @@ use Prim.Native.Nat.{ℕ, zero, suc, _<_, _≤_, _+_, _*_, _/_, _^_}
 use native.Mathlib.Omega.{arith}
 use native.Mathlib.Nat.{pow-suc}
 use lib.ListN.{length, getD}
-use Rattle.definition.specs.Limits.{mostIdentifiers}
+use Rattle.definition.specs.Limits.{recordLength, mostIdentifiers}
 use Rattle.definition.specs.RefusalNumbers.{tooManyIdentifiers}
 use Rattle.definition.specs.Lists.{Each, below}
 use Rattle.definition.specs.Records.{Rec, Unknown, nobody, numberOf, recordAt, decode, made, recAt}
@@ -18,7 +18,7 @@ use Rattle.definition.specs.Run.{State, full, stops, run, start, Passes,
 use Rattle.definition.specs.Trays.{Trays, rowNumber, traysOf, zeroTrays, laidOver}
 use Rattle.definition.specs.Call.{Outcome, Refused, Full, Ended, outcomeOfRun, outcomeBy, outcome, refusal, answerOf, answer, traysAfter, traysLeft, lengthsOf}
 use Rattle.definition.specs.Fits.{RecordFits, Sized, Kept}
-use Rattle.definition.proofs.Lists.{each-of, each-both, each-any, each-of-map}
+use Rattle.definition.proofs.Lists.{each-of, each-both, each-any, each-of-map, bit-low}
 use Rattle.definition.proofs.Accepted.{Accepted, accepted, long-alike, refused-other}
 use Rattle.definition.proofs.Exact.{full-exactly}
 use Rattle.definition.proofs.Forms.{WellFormed}
@@ -65,18 +65,14 @@ records-fit branch flags lent h a =
     let low = byte branch h in
     each-both (λ (r : Rec) (p : (numberOf (r .kind) ≤ 8) × (r .mark ≤ 1)) (q : (r .left ≤ nobody) × (r .right ≤ nobody)). record { kind = p .0; mark = p .1; left = q .0; right = q .1 }) (decode branch)
     (each-at (λ (r : Rec). (numberOf (r .kind) ≤ 8) × (r .mark ≤ 1)) (decode branch) (λ i l. (a .records i l .kind, a .records i l .mark)))
-    (each-of-map (λ (r : Rec). (r .left ≤ nobody) × (r .right ≤ nobody)) (recordAt branch) (below (length branch / 6))
+    (each-of-map (λ (r : Rec). (r .left ≤ nobody) × (r .right ≤ nobody)) (recordAt branch) (below (length branch / recordLength))
     (each-any (λ i. (recordAt branch i .left ≤ nobody) × (recordAt branch i .right ≤ nobody))
-    (λ i. (omega (arith, low (6 * i + 2), low (6 * i + 3)), omega (arith, low (6 * i + 4), low (6 * i + 5)))) (below (length branch / 6))))
+    (λ i. (omega (arith, low (recordLength * i + 2), low (recordLength * i + 3)), omega (arith, low (recordLength * i + 4), low (recordLength * i + 5)))) (below (length branch / recordLength))))
 
 pub row-low : (row : List Bool) → rowNumber row < 2 ^ length row
 unfolding rowNumber
 row-low [] = omega arith
 row-low (b ∷ bs) = let e : 2 ^ suc (length bs) ≡ 2 ^ length bs * 2 = pow-suc 2 (length bs) in rw e (omega (arith, row-low bs, bit-low b))
-  where
-    bit-low : (c : Bool) → cond c 1 0 ≤ 1
-    bit-low true = omega arith
-    bit-low false = omega arith
 
 module _ (branch : List ℕ) (flags : ℕ) (lent : Lengths) (a : Accepted branch flags lent) (e : full (final (settingOf flags) (decode branch)) ≡ false) where
   abbrev F : Setting

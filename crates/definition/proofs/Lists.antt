@@ -407,6 +407,11 @@ same-both true b f g = sym (f refl)
 same-both false true f g = g refl
 same-both false false f g = refl
 
+-- a truth as a number
+pub bit-low : (b : Bool) → cond b 1 0 ≤ 1
+bit-low true = omega arith
+bit-low false = omega arith
+
 pub length-padded : (n : ℕ) (s : List ℕ) → length s ≤ n → length (padded n s) ≡ n
 unfolding padded
 length-padded n s h = omega (arith, h, length-append s (replicate (n - length s) 0), length-replicate {A = ℕ} (n - length s) 0)

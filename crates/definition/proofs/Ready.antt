@@ -104,7 +104,7 @@ pub record Ready (s : State) : Type 0 where
   pub necessities : length (s .necessities) < mostIdentifiers
   pub worlds : s .graph .worlds < worldLimit
 
-filled : (xs : List ℕ) → empty xs ≡ false → 0 < length xs
+pub filled : (xs : List ℕ) → empty xs ≡ false → 0 < length xs
 filled [] e = true-false e
 filled (x ∷ xs) e = omega arith
 

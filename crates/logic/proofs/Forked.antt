@@ -56,9 +56,6 @@ two-nodes ns a b h = held-as (ns ++ (a ∷ b ∷ [])) (append-assoc ns (a ∷ []
 abbrev pub forkItem : ℕ → ℕ → Targeted
 forkItem x base = record { target = x; subtree = withMiddle (suc base ∷ base ∷ []) }
 
-pub fork-full : {ns : List Node} {len n : ℕ} {a w : List ℕ} (q : List ℕ) (rs : List Targeted) → mostIdentifiers < len → Held ns len a → Left (appendLogicRuleResult ns q rs) (record { nodes = len; waiting = n }) a w
-fork-full {ns} q rs big h = record { nodes = held-long _ h big (ext-result rs ns q .longer); queue = λ small. absurd (omega (arith, small, big)) }
-
 pub left-as : {p g : Placed} {r : Counts} {a w : List ℕ} → p ≡ g → Left p r a w → Left g r a w
 left-as {p} {g} {r} {a} {w} e l = subst (λ (v : Placed). Left v r a w) e l
 

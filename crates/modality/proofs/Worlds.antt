@@ -1,7 +1,7 @@
 -- The worlds that occur on a path, gathered from its nodes.
 use Prim.Native.Nat.{ℕ, zero, suc, _+_, _-_, _%_, _<_, _≤_}
 use mathlib.Core.Path.{_≡_, refl, sym, ap, _∙_, subst}
-use mathlib.Core.Bool.{Bool, true, false, cond, _&&_, _||_}
+use mathlib.Core.Bool.{Bool, true, false, cond, _&&_, _||_, and-true, and-false}
 use mathlib.Core.List.{List, [], _∷_}
 use mathlib.Core.Option.{Option, none, some}
 use mathlib.Core.Logic.{⊎-elim, _≢_}
@@ -63,14 +63,6 @@ module _ (w word more : ℕ) where
       put k low ∙ ap (λ (z : ℕ). eqb k z || bitOf word k) e ∙ ap (λ (b : Bool). b || bitOf word k) (eqb-sym k w)
 
 -- ---- the worlds of one node
-and-false : (b : Bool) → (b && false) ≡ false
-and-false true = refl
-and-false false = refl
-
-and-true : (b : Bool) → (b && true) ≡ b
-and-true true = refl
-and-true false = refl
-
 module _ (t : List Node) (f : Forking) (x : ℕ) {b : Bool} (at : b ≡ (f .on && eqb (f .node .0) x)) where
   forked-by : (v : ℕ) → forkedAt (forkOf f) v x ≡ (eqb v (f .world .0) && b)
   unfolding forkedAt

@@ -26,7 +26,7 @@ use Rattle.definition.proofs.Count.{Counted, checked-both, pop-some, Out, pop-o
 use Rattle.definition.proofs.Waiting.{queued, classes-appended, classes-checked}
 use Rattle.definition.proofs.Priest.{made-two}
 use Rattle.definition.proofs.Bounds.{rule-made}
-use Rattle.definition.proofs.Ready.{Fit, Ready, ready}
+use Rattle.definition.proofs.Ready.{Fit, Ready, ready, filled}
 use Rattle.definition.proofs.Fresh.{Since, Watch, since-step}
 use Rattle.definition.proofs.Spawned.{Rooted, AllRooted}
 use Rattle.formula.specs.Recorded.{Recorded}
@@ -264,9 +264,5 @@ module _ (F : Setting) (s : State) (x : ℕ) (q : List ℕ) where
       (classify F (next .formulas) (next .nodes) q (w .0) rec small (omega (arith, ok .0, fits)) (ok .1) put (listed-fits (next-waiting h fits) (omega (arith, next-counted k fit o, ok .0, fits))) size
       (subst (λ (v : List ℕ). Listed v n cz) (sym (classes-appended F k s taken fit q (others-known k fit o))) known))))
     where
-      filled : (xs : List ℕ) → empty xs ≡ false → 0 < length xs
-      filled [] d = true-false d
-      filled (y ∷ ys) d = omega arith
-
       waits : 0 < length (s .waiting)
       waits = filled (s .waiting) (waiting-some F s st)

@@ -4,6 +4,7 @@ use mathlib.Core.Bool.{Bool, true, false, cond}
 use Prim.Native.Nat.{ℕ, _≤_, _<_, _+_, _*_, _/_, _%_}
 use native.Mathlib.Omega.{arith}
 use lib.Dec.{eqb}
+use Rattle.definition.proofs.Lists.{bit-low}
 use Rattle.definition.specs.Call.{refusal, verdict}
 use Rattle.prover.specs.Said.{read}
 
@@ -21,10 +22,6 @@ low-16 x y h = omega (arith, h)
 
 low-8 : (x y : ℕ) → x ≤ 255 → (x + y * 256) % 256 ≡ x
 low-8 x y h = omega (arith, h)
-
-bit-low : (b : Bool) → cond b 1 0 ≤ 1
-bit-low true = omega arith
-bit-low false = omega arith
 
 bit-read : (b : Bool) → eqb (cond b 1 0) 1 ≡ b
 bit-read true = refl

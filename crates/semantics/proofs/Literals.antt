@@ -1,7 +1,7 @@
 -- What a record says and denies, by its kind's number and its fields' as they are read.
 use Prim.Native.Nat.{ℕ, _≤_}
 use mathlib.Core.Path.{_≡_, refl, sym, _∙_, subst}
-use mathlib.Core.Bool.{Bool, true, false, _&&_}
+use mathlib.Core.Bool.{Bool, true, false, _&&_, and-true, and-false}
 use mathlib.Core.List.{List, [], _∷_}
 use lib.Dec.{eqb}
 use borrow.Author.Tests.{eq-eqb, ne-eqb}
@@ -83,30 +83,22 @@ module _ {rs : List Rec} {n : ℕ} {a : List ℕ} (p : Recorded rs n a) (h : n �
   denied-formula = formula-as (denied rs) refl p h f
 
 -- ---- opposed
-and-true : (b : Bool) → b ≡ (b && true)
-and-true true = refl
-and-true false = refl
-
-and-false : (b : Bool) → false ≡ (b && false)
-and-false true = refl
-and-false false = refl
-
 module _ (a x : ℕ) where
   pub atom-atom : eqb a x ≡ opposed (a ∷ []) (x ∷ [])
   unfolding opposed
-  atom-atom = and-true (eqb a x)
+  atom-atom = sym (and-true (eqb a x))
 
   pub atom-pair : (y : ℕ) → false ≡ opposed (a ∷ []) (x ∷ y ∷ [])
   unfolding opposed
-  atom-pair y = and-false (eqb a x)
+  atom-pair y = sym (and-false (eqb a x))
 
   pub pair-atom : (b : ℕ) → false ≡ opposed (a ∷ b ∷ []) (x ∷ [])
   unfolding opposed
-  pair-atom b = and-false (eqb a x)
+  pair-atom b = sym (and-false (eqb a x))
 
   pub pair-pair : (b y : ℕ) → a ≡ x → eqb b y ≡ opposed (a ∷ b ∷ []) (x ∷ y ∷ [])
   unfolding opposed
-  pair-pair b y h = rw (eq-eqb a x h) (and-true (eqb b y))
+  pair-pair b y h = rw (eq-eqb a x h) (sym (and-true (eqb b y)))
 
   pub pair-differs : (b y : ℕ) → (a ≡ x → ⊥) → eqb a x ≡ opposed (a ∷ b ∷ []) (x ∷ y ∷ [])
   unfolding opposed

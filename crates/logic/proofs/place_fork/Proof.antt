@@ -1,11 +1,12 @@
 use native.Mathlib.Omega.{arith}
-use Rattle.logic.proofs.Forked.{fork-full, fork-placed}
+use Rattle.logic.proofs.Forked.{fork-placed}
+use Rattle.subtree.proofs.Rows.{joining-full}
 use borrow.Author.Needs.{needs}
 use Rattle.logic.proofs.place_fork.Statement.{statement}
 use Rattle.logic.proofs.place_fork.Tie as tie
 
 returns : tie.Need-returns
-returns c = λ ns q more base h l at low list st. fork-full q _ (c .if1 .taken) h
+returns c = λ ns q more base h l at low list st. joining-full q _ (c .if1 .taken) h
 
 with-comment-requires : tie.Need-with-comment-requires
 with-comment-requires c κs = search needs

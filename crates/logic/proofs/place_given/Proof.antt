@@ -1,12 +1,12 @@
 use native.Mathlib.Omega.{arith}
-use Rattle.logic.proofs.Forked.{fork-full}
+use Rattle.subtree.proofs.Rows.{joining-full}
 use Rattle.logic.proofs.Necessary.{given-placed}
 use borrow.Author.Needs.{needs}
 use Rattle.logic.proofs.place_given.Statement.{statement}
 use Rattle.logic.proofs.place_given.Tie as tie
 
 returns : tie.Need-returns
-returns c = λ ns q more h l list st. fork-full q more (c .if1 .taken) h
+returns c = λ ns q more h l list st. joining-full q more (c .if1 .taken) h
 
 append-logic-rule-result-requires : tie.Need-append-logic-rule-result-requires
 append-logic-rule-result-requires c κs = search needs
