@@ -4,6 +4,8 @@ use crate::PossibleWorld;
 use crate::add_vertex;
 use crate::contains;
 use crate::vertices::vertex_at;
+use limits::Edges;
+use limits::GRAPH_WIDTH;
 ghost use mathlib.Core.Path.{_≡_};
 ghost use mathlib.Core.Bool.{Bool, cond, _&&_, _||_};
 ghost use Prim.Native.Nat.{ℕ};
@@ -13,7 +15,7 @@ ghost use Rattle.definition.specs.Graph.{Graph, edge, paired, addMissingReflexi
 ghost use Rattle.graph.specs.Drawn.{grid, withVertex, Drawn};
 
 // One edge more, if it is missing.
-pub fn add_vertex_if(edges: &mut [u8; 625], vertex: GraphVertex, missing: bool)
+pub fn add_vertex_if(edges: &mut Edges, vertex: GraphVertex, missing: bool)
     ensures { λ r. ⌜ ((e : ℕ → ℕ → Bool) → now (edges .entry) ≡ grid e → now (edges .exit) ≡ grid (cond missing (withVertex e (vertex .from .0) (vertex .to .0)) e)) ⌝ }
 {
     if missing {
@@ -33,14 +35,14 @@ fn is_reflexive_vertex(worlds: usize, vertex: GraphVertex) -> bool
 }
 
 // Each world reaches itself.
-pub fn add_missing_reflexive_vertices(edges: &mut [u8; 625], worlds: usize)
+pub fn add_missing_reflexive_vertices(edges: &mut Edges, worlds: usize)
     ensures { λ r. ⌜ ((g : Graph) → Drawn g worlds (now (edges .entry)) → Drawn (addMissingReflexiveVertices g) worlds (now (edges .exit))) ⌝ }
 {
-    if 25 < worlds {
+    if GRAPH_WIDTH < worlds {
         return;
     }
     let mut n: usize = 0;
-    while n < worlds * 25 {
+    while n < worlds * GRAPH_WIDTH {
         let vertex = vertex_at(n);
         let missing = is_reflexive_vertex(worlds, vertex);
         add_vertex_if(edges, vertex, missing);
@@ -49,15 +51,15 @@ pub fn add_missing_reflexive_vertices(edges: &mut [u8; 625], worlds: usize)
 }
 
 // Where u reaches v, v reaches u.
-pub fn add_missing_symmetric_vertices(edges: &mut [u8; 625], worlds: usize)
+pub fn add_missing_symmetric_vertices(edges: &mut Edges, worlds: usize)
     ensures { λ r. ⌜ ((g : Graph) → Drawn g worlds (now (edges .entry)) → Drawn (addMissingSymmetricVertices g) worlds (now (edges .exit))) ⌝ }
 {
-    if 25 < worlds {
+    if GRAPH_WIDTH < worlds {
         return;
     }
     let stood = *edges;
     let mut n: usize = 0;
-    while n < worlds * 25 {
+    while n < worlds * GRAPH_WIDTH {
         let vertex = vertex_at(n);
         let missing = contains(&stood, vertex.to, vertex.from);
         add_vertex_if(edges, vertex, missing);
@@ -66,7 +68,7 @@ pub fn add_missing_symmetric_vertices(edges: &mut [u8; 625], worlds: usize)
 }
 
 // Whether one edge leads to v, and an unequal one from v on.
-fn is_paired(edges: &[u8; 625], vertex: GraphVertex, v: PossibleWorld) -> bool
+fn is_paired(edges: &Edges, vertex: GraphVertex, v: PossibleWorld) -> bool
     ensures { λ r. ⌜ ((g : Graph) (k : ℕ) → Drawn g k (now (edges .entry)) → r ≡ paired g (vertex .from .0) (vertex .to .0) (v .0)) ⌝ }
 {
     let from = vertex.from;
@@ -84,10 +86,10 @@ fn is_paired(edges: &[u8; 625], vertex: GraphVertex, v: PossibleWorld) -> bool
 }
 
 // Whether the edge is there, or two unequal edges lead from its first world to its last.
-fn is_transitive_vertex(edges: &[u8; 625], worlds: usize, vertex: GraphVertex) -> bool
+fn is_transitive_vertex(edges: &Edges, worlds: usize, vertex: GraphVertex) -> bool
     ensures { λ r. ⌜ ((g : Graph) → Drawn g worlds (now (edges .entry)) → r ≡ (edge g (vertex .from .0) (vertex .to .0) || any (paired g (vertex .from .0) (vertex .to .0)) (below (g .worlds)))) ⌝ }
 {
-    if 25 < worlds {
+    if GRAPH_WIDTH < worlds {
         return false;
     }
     let from = vertex.from;
@@ -101,7 +103,7 @@ fn is_transitive_vertex(edges: &[u8; 625], worlds: usize, vertex: GraphVertex) -
     if contains(edges, from, to) {
         return true;
     }
-    let row = from.0 as usize * 25;
+    let row = from.0 as usize * GRAPH_WIDTH;
     let mut v: usize = 0;
     while v < worlds {
         let step = vertex_at(row + v);
@@ -114,15 +116,15 @@ fn is_transitive_vertex(edges: &[u8; 625], worlds: usize, vertex: GraphVertex) -
 }
 
 // Where u reaches v and v reaches w by unequal edges, u reaches w.
-pub fn add_missing_transitive_vertices(edges: &mut [u8; 625], worlds: usize)
+pub fn add_missing_transitive_vertices(edges: &mut Edges, worlds: usize)
     ensures { λ r. ⌜ ((g : Graph) → Drawn g worlds (now (edges .entry)) → Drawn (addMissingTransitiveVertices g) worlds (now (edges .exit))) ⌝ }
 {
-    if 25 < worlds {
+    if GRAPH_WIDTH < worlds {
         return;
     }
     let stood = *edges;
     let mut n: usize = 0;
-    while n < worlds * 25 {
+    while n < worlds * GRAPH_WIDTH {
         let vertex = vertex_at(n);
         let missing = is_transitive_vertex(&stood, worlds, vertex);
         add_vertex_if(edges, vertex, missing);

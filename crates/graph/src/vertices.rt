@@ -1,14 +1,17 @@
 // The table of pairs of worlds, and the one function that looks into it.
 use crate::GraphVertex;
 use crate::PossibleWorld;
+use limits::EDGE_CELLS;
 ghost use mathlib.Core.Path.{_≡_};
 ghost use Prim.Native.Nat.{_/_, _%_, _<_, _≤_};
+ghost use Rattle.definition.specs.Limits.{graphWidth};
+ghost use Rattle.limits.specs.Arrays.{edgeCells};
 
 // The n-th pair of worlds in rising order; past the last, the first.
 pub fn vertex_at(n: usize) -> GraphVertex
-    ensures { λ r. ⌜ (n < 625 → (r .from .0 ≡ n / 25) × (r .to .0 ≡ n % 25)) × (625 ≤ n → (r .from .0 ≡ 0) × (r .to .0 ≡ 0)) ⌝ }
+    ensures { λ r. ⌜ (n < edgeCells → (r .from .0 ≡ n / graphWidth) × (r .to .0 ≡ n % graphWidth)) × (edgeCells ≤ n → (r .from .0 ≡ 0) × (r .to .0 ≡ 0)) ⌝ }
 {
-    if 625 <= n {
+    if EDGE_CELLS <= n {
         return GraphVertex {
             from: PossibleWorld::ZERO,
             to: PossibleWorld::ZERO,
@@ -22,7 +25,7 @@ pub fn vertex_at(n: usize) -> GraphVertex
 }
 
 // The pairs of worlds in rising order: from times 32 plus to.
-const VERTICES: [u16; 625] = [
+const VERTICES: [u16; EDGE_CELLS] = [
     0,
     1,
     2,
