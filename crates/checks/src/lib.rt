@@ -13,6 +13,7 @@ use limits::NO_RECORD;
 use limits::NODE_TRAY_LENGTH;
 use limits::PARTIAL_RECORD;
 use limits::RECORD_LENGTH;
+use limits::RecordSizes;
 use limits::TOO_MANY_MARKED;
 use limits::TOO_MANY_RECORDS;
 use limits::TRAY_TOO_SHORT;
@@ -115,7 +116,7 @@ fn link_count(kind: u16) -> u16
 }
 
 // Entry l of the sizes; 0 beyond the end.
-fn size_at(sizes: &[u16; MOST_RECORDS], l: u16) -> usize
+fn size_at(sizes: &RecordSizes, l: u16) -> usize
     ensures { λ r. ⌜ ((s : List ℕ) → now (sizes .entry) ≡ padded mostRecords s → length s ≤ mostRecords → r ≡ getD s l 0) × (r < 65536) ⌝ }
 {
     let i = l as usize;
@@ -126,7 +127,7 @@ fn size_at(sizes: &[u16; MOST_RECORDS], l: u16) -> usize
 }
 
 // The expanded size, by the sizes of the records before.
-fn expanded_size(sizes: &[u16; MOST_RECORDS], x: Record) -> usize
+fn expanded_size(sizes: &RecordSizes, x: Record) -> usize
     ensures { λ r. ⌜ ((s : List ℕ) → now (sizes .entry) ≡ padded mostRecords s → length s ≤ mostRecords → r ≡ expandedSize s (recordOf x)) ⌝ }
 {
     let n = link_count(x.kind);

@@ -5,6 +5,10 @@ use Prim.Native.Nat.{ℕ}
 use Rattle.definition.specs.Call.{Answer, refusal, verdict}
 use Rattle.slices.specs.Text.{decimalOf, lineOfWords}
 
+-- no line is longer
+abbrev pub lineLength : ℕ
+lineLength = 96
+
 -- "open", "proved", "late", "both", "refused" in ASCII
 abbrev pub openWord : List ℕ
 openWord = 111 ∷ 112 ∷ 101 ∷ 110 ∷ []

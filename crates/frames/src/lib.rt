@@ -9,7 +9,7 @@ ghost use Rattle.definition.specs.Call.{answer};
 ghost use Rattle.prover.specs.Said.{said};
 ghost use Rattle.frames.specs.Window.{keptLength, window, keptWith, Windowed, Reads, ReadsMore};
 ghost use Rattle.slices.specs.Text.{decimalOf, lineOfWords};
-ghost use Rattle.frames.specs.Line.{lineOf, refusedWord, wordOf};
+ghost use Rattle.frames.specs.Line.{lineLength, lineOf, refusedWord, wordOf};
 ghost use Rattle.frames.specs.Lines.{eightLines, Runs};
 ghost use Rattle.frames.specs.Put.{Put};
 use limits::EDGE_TRAY_LENGTH;
@@ -28,6 +28,18 @@ const OVER_LENGTH: usize = WINDOW_LENGTH + RECORD_LENGTH;
 
 // So many bytes are kept of an input: no count is greater.
 pub const KEPT_LENGTH: usize = OVER_LENGTH + RECORD_LENGTH - 1;
+
+// No line is longer.
+pub const LINE_LENGTH: usize = 96;
+
+// A line for each of the flags 0 to 7.
+pub const TEXT_LENGTH: usize = 8 * LINE_LENGTH;
+
+pub type KeptBytes = [u8; KEPT_LENGTH];
+
+pub type LineBytes = [u8; LINE_LENGTH];
+
+pub type TextBytes = [u8; TEXT_LENGTH];
 
 // What came of reading: an error, or how many bytes have been seen.
 enum Input {
@@ -194,9 +206,9 @@ fn put_counts(text: &mut [u8], at: usize, identifiers: u64, worlds: u64, steps: 
 
 // The line of an answer.
 fn put_line(text: &mut [u8], at: usize, flags: u8, answer: Answer) -> usize
-    requires { ⌜ at + 96 ≤ length (now text) ⌝ }
+    requires { ⌜ at + lineLength ≤ length (now text) ⌝ }
     ensures { λ r. ⌜ Put (now (text .entry)) at (lineOf flags (said answer)) (now (text .exit)) r ⌝ }
-    ensures { λ r. ⌜ r ≤ at + 96 ⌝ }
+    ensures { λ r. ⌜ r ≤ at + lineLength ⌝ }
 {
     let a = put_number(text, at, flags as u64, b' ');
     match answer {
@@ -216,7 +228,7 @@ fn put_line(text: &mut [u8], at: usize, flags: u8, answer: Answer) -> usize
 }
 
 // The line of an answer to these flags, and its length.
-pub fn line(text: &mut [u8; 96], flags: u8, answer: Answer) -> usize
+pub fn line(text: &mut LineBytes, flags: u8, answer: Answer) -> usize
     ensures { λ r. ⌜ Counts r (now (text .exit)) ⌝ }
     ensures { λ r. ⌜ take r (now (text .exit)) ≡ lineOf flags (said answer) ⌝ }
 {
@@ -225,9 +237,9 @@ pub fn line(text: &mut [u8; 96], flags: u8, answer: Answer) -> usize
 
 // The line of the call with these flags, put at a position.
 fn put_frame(text: &mut [u8], at: usize, branch: &[u8], flags: u8) -> usize
-    requires { ⌜ at + 96 ≤ length (now text) ⌝ }
+    requires { ⌜ at + lineLength ≤ length (now text) ⌝ }
     ensures { λ r. ⌜ Put (now (text .entry)) at (lineOf flags (answer (now (branch .entry)) flags zeroTrays)) (now (text .exit)) r ⌝ }
-    ensures { λ r. ⌜ r ≤ at + 96 ⌝ }
+    ensures { λ r. ⌜ r ≤ at + lineLength ⌝ }
 {
     let mut nodes = [0u8; NODE_TRAY_LENGTH];
     let mut formulas = [0u8; FORMULA_TRAY_LENGTH];
@@ -237,7 +249,7 @@ fn put_frame(text: &mut [u8], at: usize, branch: &[u8], flags: u8) -> usize
 }
 
 // The eight lines of a branch, and their length.
-pub fn lines(text: &mut [u8; 768], branch: &[u8]) -> usize
+pub fn lines(text: &mut TextBytes, branch: &[u8]) -> usize
     ensures { λ r. ⌜ Counts r (now (text .exit)) ⌝ }
     ensures { λ r. ⌜ take r (now (text .exit)) ≡ eightLines (now (branch .entry)) ⌝ }
 {
@@ -251,7 +263,7 @@ pub fn lines(text: &mut [u8; 768], branch: &[u8]) -> usize
 }
 
 // The eight lines of the bytes kept, and their length.
-fn lines_of(text: &mut [u8; 768], kept: &[u8], seen: usize) -> usize
+fn lines_of(text: &mut TextBytes, kept: &[u8], seen: usize) -> usize
     requires { ⌜ Counts seen (now kept) ⌝ }
     ensures { λ r. ⌜ Counts r (now (text .exit)) ⌝ }
     ensures { λ r. ⌜ take r (now (text .exit)) ≡ eightLines (take seen (now (kept .entry))) ⌝ }
@@ -268,7 +280,7 @@ fn print(text: &[u8], printed: usize) -> bool
 
 // Reads standard input and prints its eight lines. An error is reported on standard error; after a
 // read error nothing is printed on standard output.
-pub fn run(kept: &mut [u8; KEPT_LENGTH], text: &mut [u8; 768]) -> Ran
+pub fn run(kept: &mut KeptBytes, text: &mut TextBytes) -> Ran
     ensures { λ r. ⌜ Runs (now (kept .exit)) (now (text .exit)) r ⌝ }
 {
     match read_all(kept) {

@@ -14,7 +14,7 @@ fn show_bytes(title: &[u8], branch: &[u8], n: usize) {
     if branch.len() < n {
         return;
     }
-    let mut text = [0u8; 768];
+    let mut text = [0u8; frames::TEXT_LENGTH];
     let printed = frames::lines(&mut text, &branch[..n]);
     write(title);
     write(&text[..printed]);
@@ -173,7 +173,7 @@ fn show_call(title: &[u8], flags: u8, size: usize) {
     let mut nodes = [0u8; NODE_TRAY_LENGTH];
     let mut formulas = [0u8; FORMULA_TRAY_LENGTH];
     let mut edges = [0u32; EDGE_TRAY_LENGTH];
-    let mut text = [0u8; 96];
+    let mut text = [0u8; frames::LINE_LENGTH];
     let lent: &mut [u8] = &mut nodes;
     if lent.len() < size {
         return;

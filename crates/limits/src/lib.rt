@@ -83,6 +83,9 @@ pub const TOO_MANY_MARKED: u16 = 11;
 
 pub const TOO_MANY_IDENTIFIERS: u16 = 12;
 
+// The expanded sizes of a branch's records.
+pub type RecordSizes = [u16; MOST_RECORDS];
+
 // A list of identifiers or worlds, from its first entry on.
 pub type Numbers = [u16; MOST_IDENTIFIERS];
 

@@ -1,4 +1,5 @@
 use Prim.Native.Nat.{_*_, _-_, _≤_}
+use Rattle.frames.specs.Line.{lineLength}
 use Rattle.frames.specs.Lines.{linesBelow}
 use Rattle.frames.specs.Put.{Put}
 use Rattle.frames.proofs.Frames.{lines-none, lines-next, lines-all}
@@ -7,7 +8,7 @@ use Rattle.frames.proofs.lines.Statement.{statement}
 use Rattle.frames.proofs.lines.Tie as tie
 
 abbrev Inv-loop : tie.InvT-loop
-Inv-loop text₀ branch at₀ flags₀ text at flags = Put text₀ 0 (linesBelow flags branch) text at × (at ≤ 96 * flags) × (flags ≤ 8)
+Inv-loop text₀ branch at₀ flags₀ text at flags = Put text₀ 0 (linesBelow flags branch) text at × (at ≤ lineLength * flags) × (flags ≤ 8)
 
 abbrev μ-loop : tie.MeasureT-loop
 μ-loop text₀ branch at₀ flags₀ text at flags = 8 - flags
