@@ -4,7 +4,7 @@ use mathlib.Core.Path.{_≡_, refl, sym, ap, _∙_}
 use mathlib.Core.Bool.{Bool, true, false, not, _&&_, _||_}
 use mathlib.Core.List.{List}
 use native.Mathlib.Omega.{arith}
-use lib.ListN.{length, getD, set, replicate, length-set, length-replicate, getD-replicate}
+use lib.ListN.{length, getD, set, length-set}
 use lib.Seq.{getD-set-same, getD-set-other}
 use lib.Dec.{eqb, ltb}
 use borrow.Author.Tests.{eqb-true, eqb-false, eq-eqb, ne-eqb, lt-ltb, le-ltb, ltb-true, ltb-false}
@@ -12,14 +12,6 @@ use Rattle.definition.specs.Limits.{mostIdentifiers}
 use Rattle.limits.specs.Arrays.{rowWords, leafCount, leafWords}
 use Rattle.bits.specs.Bits.{bitOf, bitAt, Bits}
 use Rattle.bits.proofs.Power.{no-bit}
-
--- zeros are the empty set, in an array of any length
-zeros-none : (m i : ℕ) → i / 32 < m → bitAt (replicate m 0) i ≡ false
-unfolding bitAt
-zeros-none m i h = rw (getD-replicate {A = ℕ} m (i / 32) 0 0 h) (no-bit (i % 32))
-
-pub bits-none : Bits (λ i. false) (replicate leafWords 0)
-bits-none = record { long = length-replicate {A = ℕ} leafWords 0; same = λ i h. zeros-none leafWords i (omega arith) }
 
 -- only the numbers in range count
 pub bits-as : {p : ℕ → Bool} (q : ℕ → Bool) {a : List ℕ} → Bits p a → ((j : ℕ) → j < leafCount → p j ≡ q j) → Bits q a

@@ -5,6 +5,7 @@ use Prim.Native.Nat.{ℕ, _+_, min}
 use lib.Dec.{eqb, leb, ltb}
 use lib.ListN.{length, getD, drop, replicate}
 use Rattle.definition.specs.Limits.{nodeTrayLength, formulaTrayLength, edgeTrayLength}
+use Rattle.definition.specs.RefusalNumbers.{tooManyIdentifiers}
 use Rattle.definition.specs.Trays.{Trays}
 use Rattle.definition.specs.Call.{Answer, refusal, verdict, answer, traysLeft}
 use Rattle.cases.specs.Bytes.{none, startOf, endOf, numberOf, hexAfter, written, decoded}
@@ -72,7 +73,7 @@ orElse D.Trays d = D.Trays
 -- ---- a refusal
 -- f: the run was full, and the trays are zeros
 unfoldable pub fullDiffers : Expected → ℕ → Trays → Difference
-fullDiffers e number t = cond (eqb (e .word) 102 && eqb number 12) (cond (areZero (t .nodes) (t .formulas) (t .edges)) D.Nothing D.Trays) D.Verdict
+fullDiffers e number t = cond (eqb (e .word) 102 && eqb number tooManyIdentifiers) (cond (areZero (t .nodes) (t .formulas) (t .edges)) D.Nothing D.Trays) D.Verdict
 
 -- ---- the call
 unfoldable pub answerDiffers : Expected → List ℕ → Answer → Trays → Difference

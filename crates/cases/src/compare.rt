@@ -14,6 +14,8 @@ use crate::lent::nodes_agree;
 use limits::EDGE_TRAY_LENGTH;
 use limits::FORMULA_TRAY_LENGTH;
 use limits::NODE_TRAY_LENGTH;
+use limits::TOO_MANY_IDENTIFIERS;
+use limits::Worlds;
 use prover::Answer;
 use prover::prove;
 ghost use mathlib.Core.Path.{_≡_};
@@ -127,7 +129,7 @@ fn compare_full(
     if e.word != b'f' {
         return Difference::Verdict;
     }
-    if number != 12 {
+    if number != TOO_MANY_IDENTIFIERS {
         return Difference::Verdict;
     }
     if are_zero(nodes, formulas, edges) {

@@ -8,7 +8,7 @@ use Prim.Native.Nat.{ℕ, zero, suc, _<_, _≤_, _+_}
 use native.Mathlib.Omega.{arith}
 use borrow.Author.Tests.{leb-false, ltb-false}
 use lib.ListN.{length, length-append}
-use Rattle.definition.specs.Limits.{mostRecords, mostIdentifiers, worldLimit, mostFormulas}
+use Rattle.definition.specs.Limits.{mostRecords, mostIdentifiers, worldLimit, graphWidth, mostFormulas}
 use Rattle.definition.specs.Lists.{Each, empty, filter, elem}
 use Rattle.definition.specs.Records.{Rec, nobody, marks}
 use Rattle.definition.specs.Setting.{Setting}
@@ -47,6 +47,10 @@ more-label b m n b′ m′ n′ p q r l k =
 
 abbrev NecessityFits : ℕ → ℕ → Necessity → Type 0
 NecessityFits m n k = (k .formula < m) × (k .spawner < n)
+
+-- where a run stops, every world has room in the graph
+pub stop-fits : worldLimit ≤ graphWidth
+stop-fits = omega arith
 
 -- a rule's result has the formulas that its expansion makes
 pub rule-made : (F : Setting) (s : State) (x : ℕ) (more : List Rec) (r : Rule ℕ) → applyRule F s x more r .formulas ≡ more

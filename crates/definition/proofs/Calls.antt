@@ -8,13 +8,13 @@ use Prim.Native.Nat.{ℕ, zero, suc, _<_, _≤_, _+_, _*_, _/_, _^_}
 use native.Mathlib.Omega.{arith}
 use native.Mathlib.Nat.{pow-suc}
 use lib.ListN.{length, getD}
-use Rattle.definition.specs.Limits.{recordLength, mostIdentifiers}
+use Rattle.definition.specs.Limits.{recordLength}
 use Rattle.definition.specs.RefusalNumbers.{tooManyIdentifiers}
 use Rattle.definition.specs.Lists.{Each, below}
 use Rattle.definition.specs.Records.{Rec, Unknown, nobody, numberOf, recordAt, decode, made, recAt}
 use Rattle.definition.specs.Setting.{Setting, settingOf}
 use Rattle.definition.specs.Checks.{Lengths, LongEnough, Check, refused}
-use Rattle.definition.specs.Run.{State, full, stops, run, start, Passes, final}
+use Rattle.definition.specs.Run.{State, full, stops, run, start, Passes, final, enoughSteps}
 use Rattle.definition.specs.Trays.{Trays, rowNumber, traysOf, zeroTrays, laidOver}
 use Rattle.definition.specs.Call.{Outcome, Refused, Full, Ended, outcomeOfRun, outcomeBy, outcome, refusal, answerOf, answer, traysAfter, traysLeft, lengthsOf}
 use Rattle.definition.specs.Fits.{RecordFits, Sized, Kept}
@@ -86,11 +86,11 @@ module _ (branch : List ℕ) (flags : ℕ) (lent : Lengths) (a : Accepted branch
 
   pub final-bounded : (P : Rec → Type 0) (ok : (r : Rec) → RecordFits r → P r) → Each P rs → Bounded P ok F (length rs) z
   unfolding final
-  final-bounded P ok fit = run-bounded P ok F rs (suc mostIdentifiers) (a .few) (λ i l. a .records i l .links) fit
+  final-bounded P ok fit = run-bounded P ok F rs enoughSteps (a .few) (λ i l. a .records i l .links) fit
 
   pub final-numbered : Numbered (z .nodes)
   unfolding final
-  final-numbered = run-numbered stops (suc mostIdentifiers) F rs (a .marked) (omega (arith, not-full z e))
+  final-numbered = run-numbered stops enoughSteps F rs (a .marked) (omega (arith, not-full z e))
 
   -- the trays of a run that ended have their lengths
   pub final-sized : Sized (traysOf z)

@@ -15,7 +15,7 @@ use Rattle.definition.specs.Formula.{atom, formBy, written, formAt}
 use Rattle.definition.specs.Models.{Model, truth}
 use Rattle.definition.specs.Tree.{Node, nodeAt}
 use Rattle.definition.specs.Contradiction.{both, inner, atomOf, atomsOf, said, denied, opposed, areFormulasContradictory, areNodesContradictory, getContradictoryNodeIds}
-use Rattle.definition.proofs.Lists.{true-false, and-left, and-right, not-true, either, cond-both, each-map, each-reverse}
+use Rattle.definition.proofs.Lists.{true-false, and-left, and-right, not-true, either, cond-both, each-map, each-reverse, none-found}
 use Rattle.definition.proofs.Records.{same-kind}
 use Rattle.definition.proofs.Forms.{WellFormed, form-at}
 use Rattle.definition.proofs.Priest.{Holds}
@@ -32,10 +32,6 @@ same-eq [] [] e = refl
 same-eq [] (y ∷ ys) e = true-false (sym e)
 same-eq (x ∷ xs) [] e = true-false (sym e)
 same-eq (x ∷ xs) (y ∷ ys) e = cc (eqb-true x y (and-left (eqb x y) (same xs ys) e), same-eq xs ys (and-right (eqb x y) (same xs ys) e))
-
-find-none : {A : Type 0} (p : A → Bool) (xs : List A) → Each (λ x. p x ≡ false) xs → find p xs ≡ none
-find-none p [] h = refl
-find-none p (x ∷ xs) h = rw (h .0) (find-none p xs (h .1))
 
 module _ (M : Model) (w : ℕ) where
   -- an atom, or the agreement of two, has the value b
@@ -150,5 +146,5 @@ module _ (M : Model) (rs : List Rec) (wf : WellFormed rs) (img : ℕ → ℕ) (t
   unfolding getContradictoryNodeIds
   no-pair [] h = refl
   no-pair (x ∷ xs) h =
-      rw (find-none (areNodesContradictory rs t x) (reverse xs) (each-map (λ y k. no-contradiction x y (h .0) k) (reverse xs) (each-reverse Right xs (h .1))))
+      rw (none-found (areNodesContradictory rs t x) (reverse xs) (each-map (λ y k. no-contradiction x y (h .0) k) (reverse xs) (each-reverse Right xs (h .1))))
       (no-pair xs (h .1))

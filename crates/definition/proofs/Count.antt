@@ -6,18 +6,18 @@ use mathlib.Core.Option.{Option, none, some}
 use mathlib.Core.Logic.{_≢_}
 use Prim.Native.Nat.{ℕ, zero, suc, _<_, _≤_, _+_}
 use native.Mathlib.Omega.{arith}
-use lib.Dec.{eqb, leb}
-use borrow.Author.Tests.{eqb-false, leb-true}
+use lib.Dec.{eqb, ltb}
+use borrow.Author.Tests.{eqb-false, ltb-true}
 use lib.ListN.{length, getD, length-append, length-map, length-reverse}
 use Rattle.definition.specs.Lists.{Each, all, empty, orElse, upFrom, below, filter}
 use Rattle.definition.specs.Records.{Rec, Non, is, numberOf, recAt, formulaOf, nobody}
 use Rattle.definition.specs.Setting.{Setting}
 use Rattle.definition.specs.Tree.{Node, Root, Middle, nodeAt, placedBelow, leaves}
 use Rattle.definition.specs.Subtree.{Subtree, Targeted, flat, turned, numbered, copied, pushSubtree, appendSubtreeOnLeaf, appendCopies, appendOn, takes, appendSubtree, appendLogicRuleResult}
-use Rattle.definition.specs.Queue.{classes, priorities, prioritiesOfNon, priorityOf, getNodePriority, Popped, popFirst, popClass, pop}
+use Rattle.definition.specs.Queue.{classCount, classes, priorities, prioritiesOfNon, priorityOf, getNodePriority, Popped, popFirst, popClass, pop}
 use Rattle.definition.specs.Contradiction.{pairs}
 use Rattle.definition.specs.Run.{State, apply, checkedForContradictions, checkForContradictions, appended, stepBy, step, ended, rooted, branchNodes, begun, start}
-use Rattle.definition.proofs.Lists.{true-false, and-left, and-right, or-left, or-right, cond-both, each-map, each-append, each-reverse, below-each, each-left, each-right}
+use Rattle.definition.proofs.Lists.{true-false, and-left, and-right, or-left, or-right, cond-both, each-map, each-append, each-reverse, below-each, each-left, each-right, each-among, among-from}
 use Rattle.definition.proofs.Nodes.{length-chain, length-leaf, length-marks, ext-subtree}
 use Rattle.definition.proofs.Issued.{ids-numbered, Issued, issued-le, flat-numbered, length-from, length-turned, each-turned, apply-issued}
 
@@ -154,16 +154,16 @@ module _ (P : ℕ → Type 0) where
       go none k = tt
       go (some p) k = (omega (arith, ap length (k .was), ap length (k .left), length-append (k .before) (p .node ∷ k .after), length-append (k .before) (k .after)), taken-each q p k)
 
--- every class is 0, 1 or 2: one computed test of each table
-low : (ns : List ℕ) → all (λ n. leb n 2) ns ≡ true → (i : ℕ) → getD ns i 0 ≤ 2
+-- every class is one of them: one computed test of each table
+low : (ns : List ℕ) → all (λ n. ltb n classCount) ns ≡ true → (i : ℕ) → getD ns i 0 < classCount
 low [] h i = omega arith
-low (n ∷ ns) h zero = leb-true n 2 (and-left (leb n 2) _ h)
-low (n ∷ ns) h (suc i) = low ns (and-right (leb n 2) _ h) i
+low (n ∷ ns) h zero = ltb-true n classCount (and-left (ltb n classCount) _ h)
+low (n ∷ ns) h (suc i) = low ns (and-right (ltb n classCount) _ h) i
 
-priority-low : (F : Setting) (rs : List Rec) (r : Rec) → priorityOf F rs r ≤ 2
+priority-low : (F : Setting) (rs : List Rec) (r : Rec) → priorityOf F rs r < classCount
 unfolding priorityOf
 priority-low F rs r =
-    cond-both (λ n. n ≤ 2) (is Non r) (getD prioritiesOfNon (numberOf (recAt rs (r .left) .kind)) 0) (getD priorities (numberOf (r .kind)) 0)
+    cond-both (λ n. n < classCount) (is Non r) (getD prioritiesOfNon (numberOf (recAt rs (r .left) .kind)) 0) (getD priorities (numberOf (r .kind)) 0)
     (low prioritiesOfNon refl (numberOf (recAt rs (r .left) .kind))) (low priorities refl (numberOf (r .kind)))
 
 first-none : (p : ℕ → Bool) (x : ℕ) (xs before : List ℕ) → popFirst p before (x ∷ xs) ≡ none → p x ≡ false
@@ -178,20 +178,20 @@ else-none : (a b : Option Popped) → orElse a b ≡ none → (a ≡ none) × (b
 else-none none b e = (refl, e)
 else-none (some p) b e = let z : _≡_ {A = ℕ} 0 1 = cc in absurd (omega arith)
 
+-- a node that is not taken is of none of the classes
+class-none : (F : Setting) (rs : List Rec) (t : List Node) (x : ℕ) (xs cs : List ℕ) → popClass F rs t (x ∷ xs) cs ≡ none → Each (λ c. getNodePriority F rs t x ≢ c) cs
+unfolding popClass
+class-none F rs t x xs [] e = tt
+class-none F rs t x xs (c ∷ cs) e =
+    let (here, later) = else-none _ _ e in
+    (eqb-false (getNodePriority F rs t x) c (first-none (λ y. eqb (getNodePriority F rs t y) c) x xs [] here), class-none F rs t x xs cs later)
+
 -- where a node waits, one is taken
 pub pop-some : (F : Setting) (rs : List Rec) (t : List Node) (x : ℕ) (xs : List ℕ) → pop F rs t (x ∷ xs) ≡ none → ⊥
-unfolding pop popClass getNodePriority
+unfolding pop getNodePriority
 pop-some F rs t x xs e =
-    let a = else-none _ _ e in
-    let b = else-none _ _ (a .1) in
-    let c = else-none _ _ (b .1) in
-    let n0 = miss 0 (a .0) in
-    let n1 = miss 1 (b .0) in
-    let n2 = miss 2 (c .0) in
-    omega (arith, n0, n1, n2, priority-low F rs (formulaOf rs (nodeAt t x .formula)))
-  where
-    miss : (k : ℕ) → popFirst (λ y. eqb (getNodePriority F rs t y) k) [] (x ∷ xs) ≡ none → priorityOf F rs (formulaOf rs (nodeAt t x .formula)) ≢ k
-    miss k h = eqb-false (getNodePriority F rs t x) k (first-none (λ y. eqb (getNodePriority F rs t y) k) x xs [] h)
+    let low = priority-low F rs (formulaOf rs (nodeAt t x .formula)) in
+    each-among (λ c. getNodePriority F rs t x ≢ c) (getNodePriority F rs t x) classes (class-none F rs t x xs classes e) (among-from classCount 0 (getNodePriority F rs t x) (omega arith) (omega (arith, low))) refl
 
 -- each identifier waits, or was taken by a step
 unfoldable pub Counted : State → Type 0

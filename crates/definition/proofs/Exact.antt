@@ -12,7 +12,7 @@ use Rattle.definition.specs.Records.{Rec}
 use Rattle.definition.specs.Setting.{Setting}
 use Rattle.definition.specs.Tree.{Node}
 use Rattle.definition.specs.Subtree.{Targeted, appendSubtree, appendLogicRuleResult}
-use Rattle.definition.specs.Run.{State, step, ended, full, steps, stops, run, unlimitedRun, start, Passes, final}
+use Rattle.definition.specs.Run.{State, step, ended, full, steps, stops, run, unlimitedRun, start, Passes, final, enoughSteps}
 use Rattle.definition.proofs.Lists.{true-false, or-left, or-true}
 use Rattle.definition.proofs.Nodes.{ext-result}
 use Rattle.definition.proofs.Growing.{step-keeps, steps-keep}
@@ -93,10 +93,10 @@ counted (suc n) F s h = go (stops F s) refl (λ e. let d = due F s (or-left (end
 -- no step is due at the end
 pub final-stops : (F : Setting) (rs : List Rec) → stops F (final F rs) ≡ true
 unfolding final stops full Counted
-final-stops F rs = go (counted (suc mostIdentifiers) F (start F rs) (start-counted F rs))
+final-stops F rs = go (counted enoughSteps F (start F rs) (start-counted F rs))
   where
     z : State
-    z = run (suc mostIdentifiers) F (start F rs)
+    z = run enoughSteps F (start F rs)
 
     go : (stops F z ≡ true) ⊎ (Counted z × (z .steps ≡ start F rs .steps + suc mostIdentifiers)) → stops F z ≡ true
     go (inl q) = q
@@ -104,7 +104,7 @@ final-stops F rs = go (counted (suc mostIdentifiers) F (start F rs) (start-count
 
 pub final-more : (k : ℕ) (F : Setting) (rs : List Rec) → mostIdentifiers < k → run k F (start F rs) ≡ final F rs
 unfolding final
-final-more k F rs h = steps-more stops F (suc mostIdentifiers) k (start F rs) (omega arith) (final-stops F rs)
+final-more k F rs h = steps-more stops F enoughSteps k (start F rs) (omega arith) (final-stops F rs)
 
 -- the run and the paper's own loop are the same, or both are full
 same-or-full : (n : ℕ) (F : Setting) (s : State) → (unlimitedRun n F s ≡ run n F s) ⊎ ((full (run n F s) ≡ true) × (full (unlimitedRun n F s) ≡ true))
@@ -136,14 +136,14 @@ not-full-exact k F rs h small = go (same-or-full k F (start F rs))
     go (inl q) = q ∙ e
     go (inr q) = true-false (sym (q .0) ∙ ap full e ∙ small)
 
-full-passes : (F : Setting) (rs : List Rec) → full (final F rs) ≡ true → full (unlimitedRun (suc mostIdentifiers) F (start F rs)) ≡ true
+full-passes : (F : Setting) (rs : List Rec) → full (final F rs) ≡ true → full (unlimitedRun enoughSteps F (start F rs)) ≡ true
 unfolding final
-full-passes F rs h = go (same-or-full (suc mostIdentifiers) F (start F rs))
+full-passes F rs h = go (same-or-full enoughSteps F (start F rs))
   where
     z : State
-    z = unlimitedRun (suc mostIdentifiers) F (start F rs)
+    z = unlimitedRun enoughSteps F (start F rs)
 
-    go : (z ≡ run (suc mostIdentifiers) F (start F rs)) ⊎ ((full (run (suc mostIdentifiers) F (start F rs)) ≡ true) × (full z ≡ true)) → full z ≡ true
+    go : (z ≡ run enoughSteps F (start F rs)) ⊎ ((full (run enoughSteps F (start F rs)) ≡ true) × (full z ≡ true)) → full z ≡ true
     go (inl q) = ap full q ∙ h
     go (inr q) = q .1
 
@@ -170,7 +170,7 @@ passes-full F rs n h = go (same-or-full k F (start F rs))
 pub full-exactly : (F : Setting) (rs : List Rec) → (full (final F rs) ≡ true) ↔ Passes F rs
 unfolding full
 full-exactly F rs = (
-  λ h. (suc mostIdentifiers, omega (arith, ltb-true mostIdentifiers (issued (suc mostIdentifiers)) (full-passes F rs h))),
+  λ h. (suc mostIdentifiers, omega (arith, ltb-true mostIdentifiers (issued enoughSteps) (full-passes F rs h))),
   λ p. passes-full F rs (p .0) (lt-ltb mostIdentifiers (issued (p .0)) (omega (arith, p .1))),
 )
   where

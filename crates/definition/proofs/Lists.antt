@@ -154,6 +154,11 @@ module _ {A : Type 0} where
       go false d k = k d
 
   -- nothing is found where nothing passes
+  pub none-found : (p : A → Bool) (xs : List A) → Each (λ x. p x ≡ false) xs → find p xs ≡ none
+  none-found p [] h = refl
+  none-found p (x ∷ xs) h = rw (h .0) (none-found p xs (h .1))
+
+  -- nothing passes where nothing is found
   pub find-none : (p : A → Bool) (xs : List A) → find p xs ≡ none → Each (λ x. p x ≡ false) xs
   find-none p [] e = tt
   find-none p (x ∷ xs) e = go (p x) refl e (find-none p xs)

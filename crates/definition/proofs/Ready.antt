@@ -7,7 +7,7 @@ use Prim.Native.Nat.{ℕ, suc, _+_, _<_, _≤_}
 use native.Mathlib.Omega.{arith}
 use borrow.Author.Tests.{ltb-false, leb-false}
 use lib.ListN.{length, length-map, length-reverse}
-use Rattle.definition.specs.Limits.{mostRecords, mostIdentifiers, worldLimit, mostFormulas}
+use Rattle.definition.specs.Limits.{mostRecords, mostIdentifiers, worldLimit, graphWidth, mostFormulas}
 use Rattle.definition.specs.Lists.{empty}
 use Rattle.definition.specs.Records.{Rec, marks}
 use Rattle.definition.specs.Setting.{Setting}
@@ -22,7 +22,7 @@ use Rattle.definition.proofs.Count.{Counted, checked-both}
 use Rattle.definition.proofs.Treed.{Treed, leaves-few}
 use Rattle.definition.proofs.Growing.{between, between-keeps, step-keeps, start-treed}
 use Rattle.definition.proofs.Forms.{WellFormed}
-use Rattle.definition.proofs.Bounds.{Bounded, bounded-step, run-bounded}
+use Rattle.definition.proofs.Bounds.{stop-fits, Bounded, bounded-step, run-bounded}
 
 -- a rule stores one necessity at most
 few-after : (t : List Node) (g : Graph) (k : Fork) (ns : List Necessity) → length (necessitiesAfterPossibility t g k ns) ≤ suc (length ns)
@@ -102,7 +102,7 @@ pub record Ready (s : State) : Type 0 where
   pub leaves : length (leaves (s .nodes)) ≤ mostIdentifiers
   pub formulas : length (s .formulas) + 2 ≤ mostFormulas
   pub necessities : length (s .necessities) < mostIdentifiers
-  pub worlds : s .graph .worlds < worldLimit
+  pub worlds : s .graph .worlds < graphWidth
 
 pub filled : (xs : List ℕ) → empty xs ≡ false → 0 < length xs
 filled [] e = true-false e
@@ -122,7 +122,7 @@ ready F k s h e =
       leaves = omega (arith, l, leaves-few (s .nodes) t);
       formulas = omega (arith, l, c, waits, h .small, h .bounded .sizes .formulas);
       necessities = omega (arith, l, c, waits, h .stored);
-      worlds = leb-false worldLimit (s .graph .worlds) (or-right (empty (s .waiting)) _ busy);
+      worlds = omega (arith, leb-false worldLimit (s .graph .worlds) (or-right (empty (s .waiting)) _ busy), stop-fits);
     }
 
 -- before its contradictions are checked the tree is one, with room for its leaves

@@ -19,7 +19,7 @@ use Rattle.definition.specs.Checks.{Check, refused}
 use Rattle.definition.specs.Graph.{emptyGraph}
 use Rattle.definition.specs.Tree.{Node, Root, Middle, newNode, nodeAt, placedBelow, linkChain, isLeaf}
 use Rattle.definition.specs.Queue.{Popped, pop}
-use Rattle.definition.specs.Run.{State, appended, stepBy, step, steps, full, stops, rooted, branchNodes, begun, start, final}
+use Rattle.definition.specs.Run.{State, appended, stepBy, step, steps, full, stops, rooted, branchNodes, begun, start, final, enoughSteps}
 use Rattle.definition.specs.Call.{Full, Ended, outcomeOfRun, outcomeBy, outcome, answerOf, answer, lengthsOf}
 use Rattle.definition.specs.Claim.{Proved, NoModel, Demand3}
 use Rattle.definition.proofs.Lists.{true-false, either, cond-both, each-map, each-both, each-of-map, upFrom-each}
@@ -195,7 +195,7 @@ demand-3 branch flags lent proved = go (refused branch flags (lengthsOf lent)) r
     run : Accepted branch flags (lengthsOf lent) → (b : Bool) → full z ≡ b → Proved (answerOf (settingOf flags) (cond b Full (Ended z))) → NoModel F rs
     run a true e p = absurd p
     run a false e p =
-        run-sound F rs (λ i h. a .records i h .links) (a .marked) stops (suc mostIdentifiers) (omega (arith, not-full z e)) p
+        run-sound F rs (λ i h. a .records i h .links) (a .marked) stops enoughSteps (omega (arith, not-full z e)) p
 
     go : (o : Option Check) → refused branch flags (lengthsOf lent) ≡ o → Proved (answerOf (settingOf flags) (outcomeBy branch flags o)) → NoModel F rs
     go (some c) e p = absurd p

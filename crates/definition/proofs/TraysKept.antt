@@ -1,7 +1,7 @@
 -- The trays: what is written has exactly its length, and everything beyond it, and every refused call's trays, stay as lent.
 use mathlib.Core.Path.{_≡_, refl, subst}
 use mathlib.Core.List.{List, [], _∷_, _++_}
-use Prim.Native.Nat.{ℕ, _≤_, _*_, _-_}
+use Prim.Native.Nat.{ℕ, _≤_, _*_}
 use native.Mathlib.Omega.{arith}
 use lib.ListN.{length, replicate, drop, length-append, length-map, length-drop, length-replicate}
 use lib.Seq.{drop-append-seam}

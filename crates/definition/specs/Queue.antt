@@ -5,7 +5,7 @@ use mathlib.Core.Option.{Option, none, some}
 use Prim.Native.Nat.{ℕ}
 use lib.Dec.{eqb}
 use lib.ListN.{getD}
-use Rattle.definition.specs.Lists.{orElse}
+use Rattle.definition.specs.Lists.{below, orElse}
 use Rattle.definition.specs.Records.{Non, Rec, numberOf, is, recAt, formulaOf}
 use Rattle.definition.specs.Setting.{Setting}
 use Rattle.definition.specs.Tree.{Node, nodeAt}
@@ -18,9 +18,12 @@ priorities = 2 ∷ 0 ∷ 0 ∷ 1 ∷ 1 ∷ 1 ∷ 0 ∷ 0 ∷ 0 ∷ []
 abbrev pub prioritiesOfNon : List ℕ
 prioritiesOfNon = 2 ∷ 0 ∷ 1 ∷ 0 ∷ 0 ∷ 1 ∷ 0 ∷ 0 ∷ 0 ∷ []
 
--- "the most urgent" first
+-- so many classes, "the most urgent" first
+abbrev pub classCount : ℕ
+classCount = 3
+
 abbrev pub classes : List ℕ
-classes = 0 ∷ 1 ∷ 2 ∷ []
+classes = below classCount
 
 -- "Atomic and Non Atomic last; Or, Non And, Imply, BiImply, Non BiImply in the middle; all others, comments included, first"
 unfoldable pub priorityOf : Setting → List Rec → Rec → ℕ

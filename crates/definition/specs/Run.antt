@@ -182,5 +182,8 @@ abbrev pub Passes : Setting → List Rec → Type 0
 Passes F rs = (n : ℕ) × (mostIdentifiers < length (unlimitedRun n F (start F rs) .nodes))
 
 -- each step takes an identifier that was not taken before, so that this many steps are enough
+abbrev pub enoughSteps : ℕ
+enoughSteps = suc mostIdentifiers
+
 unfoldable pub final : Setting → List Rec → State
-final F rs = run (suc mostIdentifiers) F (start F rs)
+final F rs = run enoughSteps F (start F rs)

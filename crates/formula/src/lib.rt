@@ -1,9 +1,9 @@
 // Formulas as numbered records, four numbers to a record (kind, mark, left, right), in one lent array.
 // Of a call whose arrays lay out nothing of the kind that its contract names: it ends and stays in bounds; its outcome is free.
 use limits::FORMULA_FIELDS;
+use limits::FORMULAS_FULL;
 use limits::Formulas;
 use limits::MOST_FORMULAS;
-use limits::TOO_MANY_FORMULAS;
 ghost use mathlib.Core.Path.{_≡_};
 ghost use mathlib.Core.List.{List, [], _∷_, _++_};
 ghost use Prim.Native.Nat.{_≤_, _<_};
@@ -90,7 +90,7 @@ fn known_kind(kind: u16) -> u16
     kind
 }
 
-// One record more, whose number is the old count; TOO_MANY_FORMULAS where there is no room.
+// One record more, whose number is the old count; FORMULAS_FULL where there is no room.
 pub fn push_input(
     formulas: &mut Formulas,
     count: usize,
@@ -102,7 +102,7 @@ pub fn push_input(
     ensures { λ r. ⌜ ((rs : List Rec) → Recorded rs count (now (formulas .entry)) → Recorded (rs ++ (row kind mark left right ∷ [])) r (now (formulas .exit))) ⌝ }
 {
     if MOST_FORMULAS <= count {
-        return TOO_MANY_FORMULAS;
+        return FORMULAS_FULL;
     }
     let k = known_kind(kind);
     let at = count * FORMULA_FIELDS;

@@ -9,6 +9,7 @@ use borrow.Author.Tests.{eqb-true, lt-ltb, ne-eqb}
 use lib.Dec.{eqb, ltb}
 use lib.ListN.{length}
 use Rattle.definition.specs.Limits.{recordLength, mostRecords}
+use Rattle.definition.specs.RefusalNumbers.{partialRecord, tooManyRecords}
 use Rattle.definition.specs.Trays.{Trays}
 use Rattle.definition.specs.Checks.{Lengths, Check, check, checks, refused}
 use Rattle.definition.specs.Setting.{settingOf}
@@ -21,8 +22,8 @@ answer-lengths branch flags lent more e = ap (λ (l : Lengths). answerOf (settin
 
 -- "torn" or "overlong", by whether the length is a multiple of a record's
 tornOr : Bool → Option Check
-tornOr true = some (check 3 0 true)
-tornOr false = some (check 1 0 true)
+tornOr true = some (check tooManyRecords 0 true)
+tornOr false = some (check partialRecord 0 true)
 
 refused-by : (bytes : List ℕ) (flags : ℕ) (lent : Lengths) → windowLength < length bytes → (b : Bool) → eqb (length bytes % recordLength) 0 ≡ b → refused bytes flags lent ≡ tornOr b
 unfolding refused checks tornOr

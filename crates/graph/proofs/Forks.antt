@@ -1,6 +1,6 @@
 -- Laws of the missing edges together, of the first world and of a fork.
 use Prim.Native.Nat.{ℕ, suc, _+_, min, _≤_, _<_}
-use mathlib.Core.Path.{_≡_, refl, sym, ap, _∙_}
+use mathlib.Core.Path.{_≡_, refl, sym, _∙_}
 use mathlib.Core.Bool.{Bool, true, false, cond, _&&_, _||_}
 use mathlib.Core.Logic.{inl, ⊎-elim, _≢_}
 use mathlib.Core.List.{List}

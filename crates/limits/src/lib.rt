@@ -15,6 +15,9 @@ pub const MOST_IDENTIFIERS: usize = 512;
 // A count that says: more than there is room for.
 pub const FULL: usize = MOST_IDENTIFIERS + 1;
 
+// So many steps are enough for every run.
+pub const ENOUGH_STEPS: usize = MOST_IDENTIFIERS + 1;
+
 // The stop: so many worlds end a run.
 pub const WORLD_LIMIT: usize = 25;
 
@@ -23,10 +26,13 @@ pub const GRAPH_WIDTH: usize = 25;
 
 pub const NODE_LENGTH: usize = 12;
 
+// So many classes of urgency: definition/specs/Queue.
+pub const CLASS_COUNT: u16 = 3;
+
 pub const MOST_FORMULAS: usize = MOST_RECORDS + 2 * MOST_IDENTIFIERS;
 
 // A count that says: more formulas than there is room for.
-pub const TOO_MANY_FORMULAS: usize = MOST_FORMULAS + 1;
+pub const FORMULAS_FULL: usize = MOST_FORMULAS + 1;
 
 pub const NODE_TRAY_LENGTH: usize = NODE_LENGTH * MOST_IDENTIFIERS;
 
@@ -116,5 +122,5 @@ pub type Waiting = Numbers;
 // The classes of those that wait, in the same order.
 pub type Classes = Numbers;
 
-// The rows of the stored necessities, in the order in which they are popped.
+// The rows of the stored necessities, from the bottom of the stack to the top.
 pub type Order = Numbers;

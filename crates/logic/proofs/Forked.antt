@@ -30,7 +30,7 @@ use Rattle.tree.specs.Chain.{chainOf, fallingChain, emptyChain}
 use Rattle.tree.specs.Sequence.{idAt}
 use Rattle.tree.proofs.Sequence.{id-fits}
 use Rattle.tree.proofs.Paths.{listed-as, leaves-as}
-use Rattle.tree.proofs.Nodes.{held-ok, held-fits, held-long, held-as}
+use Rattle.tree.proofs.Nodes.{held-ok, held-fits, held-as}
 use Rattle.necessities.specs.Stack.{Stack}
 use Rattle.subtree.specs.declared.ProofSubtree.{ProofSubtree}
 use Rattle.subtree.specs.declared.Counts.{Counts}

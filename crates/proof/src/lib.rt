@@ -2,6 +2,7 @@
 // Of a call whose arrays lay out nothing of the kind that its contract names: it ends and stays in bounds; its outcome is free.
 use contradictions::check_for_contradictions;
 use limits::Classes;
+use limits::ENOUGH_STEPS;
 use limits::Edges;
 use limits::FULL;
 use limits::Formulas;
@@ -35,7 +36,7 @@ ghost use Rattle.definition.specs.Limits.{mostIdentifiers, mostFormulas};
 ghost use Rattle.definition.specs.Records.{Rec};
 ghost use Rattle.definition.specs.Setting as D;
 ghost use Rattle.definition.specs.Tree.{leaves};
-ghost use Rattle.definition.specs.Run.{State, applyHere, applyRule, checkForContradictions, stops, run};
+ghost use Rattle.definition.specs.Run.{State, applyHere, applyRule, checkForContradictions, stops, run, enoughSteps};
 ghost use Rattle.definition.proofs.Ready.{Fit};
 ghost use Rattle.definition.proofs.Fresh.{Since, Watch};
 ghost use Rattle.definition.proofs.Spawned.{AllRooted};
@@ -297,11 +298,11 @@ pub fn prove(
 ) -> Progress
     ensures { λ r. ⌜ ((k : ℕ) (s : State) → Fit (asked setting) k s → Watch (asked setting) s → AllRooted s
         → Kept (asked setting) s begun (now (formulas .entry)) (now (tree .entry)) (now (edges .entry)) (now (rows .entry)) (now (leaves .entry)) (now (visited .entry)) (now (order .entry)) (now (wait .entry)) (now (classes .entry))
-        → Kept (asked setting) (run (suc mostIdentifiers) (asked setting) s) r (now (formulas .exit)) (now (tree .exit)) (now (edges .exit)) (now (rows .exit)) (now (leaves .exit)) (now (visited .exit)) (now (order .exit)) (now (wait .exit)) (now (classes .exit))) ⌝ }
+        → Kept (asked setting) (run enoughSteps (asked setting) s) r (now (formulas .exit)) (now (tree .exit)) (now (edges .exit)) (now (rows .exit)) (now (leaves .exit)) (now (visited .exit)) (now (order .exit)) (now (wait .exit)) (now (classes .exit))) ⌝ }
 {
     let mut p = begun;
     let mut n: usize = 0;
-    while n < FULL {
+    while n < ENOUGH_STEPS {
         if stops(p) {
             return p;
         }

@@ -7,16 +7,16 @@ use mathlib.Core.Logic.{_⊎_, inl, inr}
 use Prim.Native.Nat.{ℕ, suc, _≤_, _<_, _/_}
 use native.Mathlib.Omega.{arith}
 use lib.ListN.{length}
-use Rattle.definition.specs.Limits.{recordLength, mostRecords, mostMarked, mostIdentifiers, worldLimit}
+use Rattle.definition.specs.Limits.{recordLength, mostRecords, mostMarked, worldLimit}
 use Rattle.definition.specs.RefusalNumbers.{tooManyIdentifiers}
 use Rattle.definition.specs.Lists.{Each, empty}
 use Rattle.definition.specs.Records.{Rec, Unknown, nobody, made, decode, recAt, marks}
 use Rattle.definition.specs.Setting.{Setting, settingOf}
 use Rattle.definition.specs.Tree.{Node, newNode}
 use Rattle.definition.specs.Graph.{initializeGraphIfNeeded}
-use Rattle.definition.specs.Run.{State, full, start, run, final}
+use Rattle.definition.specs.Run.{State, full, start, run, final, enoughSteps}
 use Rattle.definition.specs.Trays.{Trays}
-use Rattle.definition.specs.Checks.{Check, check, refused}
+use Rattle.definition.specs.Checks.{LongEnough, Check, check, refused}
 use Rattle.definition.specs.Call.{Outcome, Refused, Full, Ended, Answer, refusal, outcomeOfRun, outcomeBy, outcome, answerOf, answer, traysAfter, traysLeft, lengthsOf}
 use Rattle.definition.specs.Claim.{Proved}
 use Rattle.definition.specs.Completeness.{Open, InTime}
@@ -34,7 +34,7 @@ use Rattle.proof.specs.declared.Progress.{Progress}
 use Rattle.proof.specs.Kept.{Kept}
 use Rattle.prover.specs.Contract.{Contract}
 use Rattle.prover.specs.Said.{worldsOf}
-use Rattle.prover.specs.Parts.{Ends, Sized}
+use Rattle.prover.specs.Parts.{Ends}
 
 module _ (branch : List ℕ) (flags : ℕ) (lent : Trays) where
   abbrev o : Outcome
@@ -116,8 +116,8 @@ module _ (branch : List ℕ) (flags : ℕ) (lent : Trays) where
     pub runs : {r : Answer} {left : Trays} {G : Setting} {p q : Progress} {fa ta ea ra la va oa wa ca fb tb eb rb lb vb ob wb cb : List ℕ} → refused branch flags (lengthsOf lent) ≡ none →
         G ≡ F →
         (length branch / recordLength ≤ mostRecords → empty (marks rs) ≡ false → length (marks rs) ≤ mostMarked → Kept G (start G rs) p fa ta ea ra la va oa wa ca) →
-        (Fit G (length rs) (start G rs) → Watch G (start G rs) → AllRooted (start G rs) → Kept G (start G rs) p fa ta ea ra la va oa wa ca → Kept G (run (suc mostIdentifiers) G (start G rs)) q fb tb eb rb lb vb ob wb cb) →
-        (Kept F (final F rs) q fb tb eb rb lb vb ob wb cb → Ends (final F rs) → Sized lent → (r ≡ answerOf F (outcomeOfRun (final F rs))) × (left ≡ traysAfter (outcomeOfRun (final F rs)) lent)) →
+        (Fit G (length rs) (start G rs) → Watch G (start G rs) → AllRooted (start G rs) → Kept G (start G rs) p fa ta ea ra la va oa wa ca → Kept G (run enoughSteps G (start G rs)) q fb tb eb rb lb vb ob wb cb) →
+        (Kept F (final F rs) q fb tb eb rb lb vb ob wb cb → Ends (final F rs) → LongEnough (lengthsOf lent) → (r ≡ answerOf F (outcomeOfRun (final F rs))) × (left ≡ traysAfter (outcomeOfRun (final F rs)) lent)) →
         Contract branch flags lent r left
     unfolding final
     runs e l begin go finish =

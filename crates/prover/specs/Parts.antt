@@ -7,11 +7,8 @@ use lib.ListN.{length}
 use Rattle.definition.specs.Limits.{mostIdentifiers, mostFormulas}
 use Rattle.definition.specs.Lists.{Each}
 use Rattle.definition.specs.Records.{Rec}
-use Rattle.definition.specs.Checks.{LongEnough}
 use Rattle.definition.specs.Tree.{Node}
-use Rattle.definition.specs.Trays.{Trays}
 use Rattle.definition.specs.Run.{State, full}
-use Rattle.definition.specs.Call.{lengthsOf}
 
 -- a run that is not full ends with numbers that fit their bytes, and a square of edges
 pub record Fits (s : State) : Type 0 where
@@ -24,7 +21,3 @@ pub record Fits (s : State) : Type 0 where
 
 abbrev pub Ends : State → Type 0
 Ends s = full s ≡ false → Fits s
-
--- the trays are long enough
-abbrev pub Sized : Trays → Type 0
-Sized t = LongEnough (lengthsOf t)

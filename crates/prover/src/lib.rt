@@ -32,8 +32,7 @@ ghost use mathlib.Core.Path.{_≡_};
 ghost use mathlib.Core.Bool.{false, cond};
 ghost use mathlib.Core.List.{List, []};
 ghost use mathlib.Core.Option.{none};
-ghost use Prim.Native.Nat.{ℕ, _≤_, _/_, _%_};
-ghost use lib.Dec.{eqb};
+ghost use Prim.Native.Nat.{ℕ, _≤_, _/_};
 ghost use lib.ListN.{length};
 ghost use Rattle.definition.specs.Limits.{recordLength, mostRecords, mostMarked};
 ghost use Rattle.arrays.specs.Listed.{Listed};
@@ -42,7 +41,7 @@ ghost use Rattle.definition.specs.Records.{decode, marks};
 ghost use Rattle.definition.specs.Setting as D;
 ghost use Rattle.definition.specs.Graph.{emptyGraph};
 ghost use Rattle.definition.specs.Run.{State, start};
-ghost use Rattle.definition.specs.Checks.{refused};
+ghost use Rattle.definition.specs.Checks.{LongEnough, refused};
 ghost use Rattle.definition.specs.Call.{outcomeOfRun, answerOf, traysAfter, lengthsOf};
 ghost use Rattle.formula.specs.Recorded.{Recorded};
 ghost use Rattle.graph.specs.Drawn.{Drawn};
@@ -52,7 +51,7 @@ ghost use Rattle.necessities.specs.Stack.{Stack};
 ghost use Rattle.proof.specs.Kept.{Kept};
 ghost use Rattle.prover.specs.Contract.{trays, Contract};
 ghost use Rattle.prover.specs.Said.{said, read, worldsOf};
-ghost use Rattle.prover.specs.Parts.{Ends, Sized};
+ghost use Rattle.prover.specs.Parts.{Ends};
 
 // A verdict, or a refusal by the table's number with its record number.
 pub enum Answer {
@@ -120,7 +119,7 @@ fn finish(
     edges: &mut [u32],
 ) -> Answer
     ensures { λ r. ⌜ ((F : D.Setting) (s : State) (ra la va oa wa ca : List ℕ) → Kept F s p (now (table .entry)) (now (tree .entry)) (now (graph .entry)) ra la va oa wa ca → Ends s
-        → Sized (trays (now (nodes .entry)) (now (formulas .entry)) (now (edges .entry)))
+        → LongEnough (lengthsOf (trays (now (nodes .entry)) (now (formulas .entry)) (now (edges .entry))))
         → (said r ≡ answerOf F (outcomeOfRun s))
         × (trays (now (nodes .exit)) (now (formulas .exit)) (now (edges .exit)) ≡ traysAfter (outcomeOfRun s) (trays (now (nodes .entry)) (now (formulas .entry)) (now (edges .entry))))) ⌝ }
 {

@@ -20,6 +20,8 @@ use Rattle.definition.specs.Records.{Rec}
 use Rattle.definition.specs.Tree.{Node}
 use Rattle.definition.specs.Setting.{Setting}
 use Rattle.definition.specs.Queue as D
+use Rattle.definition.proofs.Lists.{from-get}
+use Rattle.definition.proofs.Issued.{length-from}
 use Rattle.queue.specs.declared.Popped.{Popped}
 use Rattle.queue.specs.declared.Popped.the-variants as P
 use Rattle.queue.specs.Taking.{takenAt, answer, afterwards}
@@ -62,7 +64,7 @@ module _ (p : ℕ → Bool) where
 module _ (F : Setting) (rs : List Rec) (ns : List Node) (q : List ℕ) where
   -- from class k on
   unfoldable pub fromClass : ℕ → Option D.Popped
-  fromClass k = D.popClass F rs ns q (drop k (0 ∷ 1 ∷ 2 ∷ []))
+  fromClass k = D.popClass F rs ns q (drop k D.classes)
 
   -- from position i of class k on
   unfoldable pub fromPlace : ℕ → ℕ → Option D.Popped
@@ -72,16 +74,19 @@ module _ (F : Setting) (rs : List Rec) (ns : List Node) (q : List ℕ) where
   unfolding fromClass D.pop
   class-start = refl
 
-  pub class-end : (k : ℕ) → k ≡ 3 → fromClass k ≡ none
+  pub class-end : (k : ℕ) → k ≡ D.classCount → fromClass k ≡ none
   unfolding fromClass D.popClass
   class-end k e = rw e
 
-  pub class-step : (k : ℕ) → k < 3 → fromClass k ≡ fromPlace k 0
+  pub class-step : (k : ℕ) → k < D.classCount → fromClass k ≡ fromPlace k 0
   unfolding fromClass fromPlace D.popClass
-  class-step zero h = refl
-  class-step (suc zero) h = refl
-  class-step (suc (suc zero)) h = refl
-  class-step (suc (suc (suc k))) h = absurd (omega arith)
+  class-step k h =
+      let here : 0 + k ≡ k = omega arith in
+      let next : suc k ≡ k + 1 = omega arith in
+      ap (D.popClass F rs ns q)
+      (drop-cons D.classes k 0 (omega (arith, h, length-from D.classCount 0))
+      ∙ ap (λ (c : ℕ). c ∷ drop (suc k) D.classes) (from-get D.classCount 0 k h ∙ here)
+      ∙ ap (λ (j : ℕ). k ∷ drop j D.classes) next)
 
   pub place-hit : (k i : ℕ) → i < length q → D.getNodePriority F rs ns (getD q i 0) ≡ k → fromPlace k i ≡ takenAt q i
   unfolding fromPlace
@@ -106,13 +111,13 @@ module _ (F : Setting) (rs : List Rec) (ns : List Node) (q : List ℕ) {n : ℕ}
   pub many : length q ≡ n
   many = sym (length-map q (D.getNodePriority F rs ns)) ∙ listed-count l g
 
-  pub search-begin : (k : ℕ) → k < 3 → fromClass F rs ns q k ≡ D.pop F rs ns q → fromPlace F rs ns q k 0 ≡ D.pop F rs ns q
+  pub search-begin : (k : ℕ) → k < D.classCount → fromClass F rs ns q k ≡ D.pop F rs ns q → fromPlace F rs ns q k 0 ≡ D.pop F rs ns q
   search-begin k h e = sym (class-step F rs ns q k h) ∙ e
 
   pub search-next : (k i : ℕ) → n ≤ i → fromPlace F rs ns q k i ≡ D.pop F rs ns q → fromClass F rs ns q (k + 1) ≡ D.pop F rs ns q
   search-next k i h e = sym (place-end F rs ns q k i (omega (arith, many))) ∙ e
 
-  pub search-end : (k : ℕ) → k ≡ 3 → fromClass F rs ns q k ≡ D.pop F rs ns q → D.pop F rs ns q ≡ takenAt q n
+  pub search-end : (k : ℕ) → k ≡ D.classCount → fromClass F rs ns q k ≡ D.pop F rs ns q → D.pop F rs ns q ≡ takenAt q n
   search-end k z e = sym e ∙ class-end F rs ns q k z ∙ sym (taken-out q n (omega (arith, many)))
 
   -- v is read at position i

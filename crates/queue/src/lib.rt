@@ -4,6 +4,7 @@ use arrays::nth;
 use arrays::push;
 use arrays::remove;
 use formula::priority_of;
+use limits::CLASS_COUNT;
 use limits::Classes;
 use limits::Formulas;
 use limits::Nodes;
@@ -71,7 +72,7 @@ fn first_urgent(classes: &Classes, n: usize) -> usize
 {
     let mut class: u16 = 0;
     'classes: loop {
-        if class == 3 {
+        if class == CLASS_COUNT {
             break n;
         }
         let mut i: usize = 0;

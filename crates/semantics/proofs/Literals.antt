@@ -1,7 +1,7 @@
 -- What a record says and denies, by its kind's number and its fields' as they are read.
 use Prim.Native.Nat.{ℕ, _≤_}
 use mathlib.Core.Path.{_≡_, refl, sym, _∙_, subst}
-use mathlib.Core.Bool.{Bool, true, false, _&&_, and-true, and-false}
+use mathlib.Core.Bool.{Bool, true, false, and-true, and-false}
 use mathlib.Core.List.{List, [], _∷_}
 use lib.Dec.{eqb}
 use borrow.Author.Tests.{eq-eqb, ne-eqb}

@@ -51,7 +51,7 @@ FullExactly = (F : Setting) (rs : List Rec) → (full (final F rs) ≡ true) ↔
 abbrev pub NotFullExactly : Type 0
 NotFullExactly = (k : ℕ) (F : Setting) (rs : List Rec) → mostIdentifiers < k → full (final F rs) ≡ false → unlimitedRun k F (start F rs) ≡ final F rs
 
--- so the call refuses with that number exactly if no check applies and that loop passes the limit, and zeroes the three lengths
+-- so the call refuses with `tooManyIdentifiers` exactly if no check applies and that loop passes the limit, and zeroes the three lengths
 abbrev pub TwelveExactly : Type 0
 TwelveExactly =
     (branch : List ℕ) (flags : ℕ) (lent : Trays) →

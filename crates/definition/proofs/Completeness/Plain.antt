@@ -7,7 +7,7 @@ use Prim.Native.Nat.{ℕ, suc, _<_, _≤_, _+_}
 use native.Mathlib.Omega.{arith}
 use borrow.Author.Tests.{ne-eqb}
 use lib.ListN.{length, length-append}
-use Rattle.definition.specs.Limits.{mostRecords, mostIdentifiers}
+use Rattle.definition.specs.Limits.{mostRecords}
 use Rattle.definition.specs.Lists.{Each}
 use Rattle.definition.specs.Records.{Rec, nobody, isNobody, decode, marks}
 use Rattle.definition.specs.Checks.{Lengths}
@@ -20,7 +20,7 @@ use Rattle.definition.specs.Rules.{Rule, nothing, down, split, asPossibl
 use Rattle.definition.specs.Subtree.{flat, turned}
 use Rattle.definition.specs.Queue.{Popped}
 use Rattle.definition.specs.Contradiction.{pairs}
-use Rattle.definition.specs.Run.{State, LogicRuleResult, applyHere, apply, appended, checkedForContradictions, stops, step, branchNodes, begun, start, run, final}
+use Rattle.definition.specs.Run.{State, LogicRuleResult, applyHere, apply, appended, checkedForContradictions, stops, step, branchNodes, begun, start, run, final, enoughSteps}
 use Rattle.definition.specs.Trays.{Trays}
 use Rattle.definition.specs.Call.{Verdict, Answer, refusal, verdict, answerOf, answer, lengthsOf, late}
 use Rattle.definition.specs.Claim.{Proved}
@@ -185,8 +185,8 @@ plain-worlds branch flags lent a skip plain = rw none refl
         let known = taken-each (λ x. x < length (s .nodes)) (s .waiting) (q .0) (pop-taken F (s .formulas) (s .nodes) (s .waiting) (q .0) (q .1)) (h .0 .bounded .known) .0 in
         (fit-step F k s e (h .0), subst AllPlain (sym (q .2)) (plain-step F k s (q .0) (h .0) (h .1) e known))
 
-    none : run (suc mostIdentifiers) F (start F (decode branch)) .graph .worlds ≡ 0
-    none = run-keeps Kept F one (suc mostIdentifiers) (start F (decode branch)) (fit-start F (decode branch) (a .few) (λ i l. a .records i l .links) (a .marked), plain-start F (decode branch) (a .few) plain) .1 .1
+    none : run enoughSteps F (start F (decode branch)) .graph .worlds ≡ 0
+    none = run-keeps Kept F one enoughSteps (start F (decode branch)) (fit-start F (decode branch) (a .few) (λ i l. a .records i l .links) (a .marked), plain-start F (decode branch) (a .few) plain) .1 .1
 
 -- ---- the verdict
 abbrev Unproved : Answer → Type 0

@@ -8,6 +8,7 @@ use Prim.Native.Nat.{ℕ, suc, _≤_}
 use native.Mathlib.Omega.{arith}
 use lib.ListN.{length}
 use Rattle.definition.specs.Limits.{mostIdentifiers}
+use Rattle.definition.specs.RefusalNumbers.{tooManyIdentifiers}
 use Rattle.definition.specs.Lists.{Each, all, find, elem, empty}
 use Rattle.definition.specs.Records.{Rec, Unknown, decode, marks, made, numberOf, recAt}
 use Rattle.definition.specs.Checks.{Lengths}
@@ -19,7 +20,7 @@ use Rattle.definition.specs.Tree.{Node, nodeAt, leaves, path}
 use Rattle.definition.specs.Rules.{Rule, nothing, down, split, asPossible, asNecessary, priest}
 use Rattle.definition.specs.Modality.{occurs}
 use Rattle.definition.specs.Contradiction.{Pair, isPair, pairs, getContradictoryNodeIds}
-use Rattle.definition.specs.Run.{State, full, ended, stops, final}
+use Rattle.definition.specs.Run.{State, full, ended, stops, final, enoughSteps}
 use Rattle.definition.specs.Trays.{Trays}
 use Rattle.definition.specs.Call.{Outcome, Refused, Full, Ended, outcome, Answer, refusal, verdict, answerOf, answer, lengthsOf, late}
 use Rattle.definition.specs.Claim.{Proved}
@@ -189,7 +190,7 @@ run-complete branch flags lent a skip room unproved timely =
     let rs = decode branch in
     let z = final F rs in
     let few = not-full z room in
-    let g = good-run F rs skip (a .marked) (a .few) (λ i l. a .records i l .links) (suc mostIdentifiers) (omega arith) in
+    let g = good-run F rs skip (a .marked) (a .few) (λ i l. a .records i l .links) enoughSteps (omega arith) in
     let kinds = final-bounded branch flags lent a room (λ (r : Rec). numberOf (r .kind) ≤ 8) (λ r (q : RecordFits r). q .kind) (accepted-kinds branch flags lent a) .sizes .records in
     let idle = nothing-waits F rs unproved timely room in
     let l = open-leaf F rs z g few skip kinds idle unproved in
@@ -204,7 +205,7 @@ answered P never branch flags lent h = go (outcome branch flags (lengthsOf lent)
   where
     go : (o : Outcome) → outcome branch flags (lengthsOf lent) ≡ o → P (answerOf (settingOf flags) o) → let z = final (settingOf flags) (decode branch) in Accepted branch flags (lengthsOf lent) × (full z ≡ false) × P (answerOf (settingOf flags) (Ended z))
     go (Refused c) e q = absurd (never (c .number) (c .place) q)
-    go Full e q = absurd (never 12 0 q)
+    go Full e q = absurd (never tooManyIdentifiers 0 q)
     go (Ended s) e q = let k = ended-of branch flags (lengthsOf lent) s e in (k .0, k .1, subst (λ (s : State). P (answerOf (settingOf flags) (Ended s))) (sym (k .2)) q)
 
 pub complete : Complete

@@ -1,4 +1,4 @@
-use mathlib.Core.Path.{sym, _∙_}
+use mathlib.Core.Path.{_∙_}
 use Rattle.proof.proofs.Applying.{check-skipped, check-made, or-yes, or-no}
 use Rattle.setting.specs.Asked.{asked}
 use borrow.Author.Needs.{needs}

@@ -3,8 +3,7 @@ use borrow.Author.Needs.{needs}
 use mathlib.Core.Path.{_∙_, sym}
 use Prim.Native.Nat.{ℕ, suc, _≤_, _-_}
 use native.Mathlib.Omega.{arith}
-use Rattle.definition.specs.Limits.{mostIdentifiers}
-use Rattle.definition.specs.Run.{State}
+use Rattle.definition.specs.Run.{State, enoughSteps}
 use Rattle.definition.proofs.Ready.{Fit}
 use Rattle.definition.proofs.Fresh.{Watch}
 use Rattle.definition.proofs.Spawned.{AllRooted}
@@ -15,12 +14,12 @@ use Rattle.proof.proofs.prove.Tie as tie
 
 abbrev Inv-loop : tie.InvT-loop
 Inv-loop setting formulas₀ tree₀ edges₀ rows₀ leaves₀ visited₀ order₀ wait₀ classes₀ p₀ n₀ formulas tree edges rows leaves visited order wait classes p n =
-    (n ≤ (suc mostIdentifiers)) ×
+    (n ≤ enoughSteps) ×
     ((k : ℕ) (s : State) → Fit (asked setting) k s → Watch (asked setting) s → AllRooted s → Kept (asked setting) s p₀ formulas₀ tree₀ edges₀ rows₀ leaves₀ visited₀ order₀ wait₀ classes₀ →
     Going (asked setting) k s n p formulas tree edges rows leaves visited order wait classes)
 
 abbrev μ-loop : tie.MeasureT-loop
-μ-loop setting formulas₀ tree₀ edges₀ rows₀ leaves₀ visited₀ order₀ wait₀ classes₀ p₀ n₀ formulas tree edges rows leaves visited order wait classes p n = (suc mostIdentifiers) - n
+μ-loop setting formulas₀ tree₀ edges₀ rows₀ leaves₀ visited₀ order₀ wait₀ classes₀ p₀ n₀ formulas tree edges rows leaves visited order wait classes p n = enoughSteps - n
 
 loop-holds : tie.Need-loop-holds Inv-loop μ-loop
 loop-holds c = (search needs, λ k s f w a h. going-start f w a h (omega arith))

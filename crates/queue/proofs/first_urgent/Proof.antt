@@ -20,10 +20,10 @@ abbrev μ-loop : tie.MeasureT-loop
 μ-loop classes n class i₀ i = n - i
 
 abbrev Inv-classes : tie.InvT-classes
-Inv-classes classes n class₀ class = (class ≤ 3) × ((F : Setting) (rs : List Rec) (ns : List Node) (q : List ℕ) → Listed (map (D.getNodePriority F rs ns) q) n classes → n ≤ mostIdentifiers → fromClass F rs ns q class ≡ D.pop F rs ns q)
+Inv-classes classes n class₀ class = (class ≤ D.classCount) × ((F : Setting) (rs : List Rec) (ns : List Node) (q : List ℕ) → Listed (map (D.getNodePriority F rs ns) q) n classes → n ≤ mostIdentifiers → fromClass F rs ns q class ≡ D.pop F rs ns q)
 
 abbrev μ-classes : tie.MeasureT-classes
-μ-classes classes n class₀ class = 3 - class
+μ-classes classes n class₀ class = D.classCount - class
 
 classes-holds : tie.Need-classes-holds Inv-loop μ-loop Inv-classes μ-classes
 classes-holds c = (search needs, λ F rs ns q l g. class-start F rs ns q)
