@@ -1,4 +1,4 @@
--- The refusals before the run, in parts, each part of just what it looks at; `checks` joins them in the paper's order. "Full" is the run's, and stands in Call.
+-- The refusals before the run, in parts, each a function of just what it looks at; `checks` joins them in the paper's order. "Full" is the run's, and stands in Call.
 use mathlib.Core.Bool.{Bool, _&&_, _||_, not}
 use mathlib.Core.List.{List, [], _∷_, _++_, map}
 use mathlib.Core.Option.{Option}

@@ -1,7 +1,7 @@
 -- Laws of the array of edges.
 use Prim.Native.Nat.{ℕ, zero, suc, _+_, _*_, _/_, _%_, _≤_, _<_}
 use mathlib.Core.Path.{_≡_, refl, sym, ap, _∙_}
-use mathlib.Core.Bool.{Bool, true, false, cond, _&&_, _||_}
+use mathlib.Core.Bool.{Bool, true, false, cond, _&&_, _||_, or-true}
 use mathlib.Core.Logic.{_⊎_, ⊎-elim}
 use mathlib.Core.List.{List, [], map}
 use native.Mathlib.Omega.{arith}
@@ -60,11 +60,7 @@ grid-same e f h = grid-by (grid e) f (grid-length e) (λ k b. grid-at e k b ∙ 
 -- ---- one edge more
 pub with-hit : (e : ℕ → ℕ → Bool) (u v a b : ℕ) → a ≡ u → b ≡ v → withVertex e u v a b ≡ true
 unfolding withVertex
-with-hit e u v a b p q = rw (eq-eqb a u p, eq-eqb b v q) (or-last (e a b))
-  where
-    or-last : (x : Bool) → (x || true) ≡ true
-    or-last true = refl
-    or-last false = refl
+with-hit e u v a b p q = rw (eq-eqb a u p, eq-eqb b v q) (or-true (e a b))
 
 pub with-miss : (e : ℕ → ℕ → Bool) (u v a b : ℕ) → (a ≡ u → b ≡ v → ⊥) → withVertex e u v a b ≡ e a b
 unfolding withVertex

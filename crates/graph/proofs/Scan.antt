@@ -1,7 +1,7 @@
 -- Laws of a scan that adds, pair after pair, each edge that a rule gives, and of a search through the worlds.
 use Prim.Native.Nat.{ℕ, zero, suc, _+_, _-_, _*_, _/_, _%_, _≤_, _<_}
 use mathlib.Core.Path.{_≡_, refl, sym, ap, _∙_}
-use mathlib.Core.Bool.{Bool, true, false, cond, _&&_, _||_}
+use mathlib.Core.Bool.{Bool, true, false, cond, _&&_, _||_, or-true, or-false}
 use mathlib.Core.Logic.{⊎-elim}
 use mathlib.Core.List.{List}
 use native.Mathlib.Numerals.{add-one}
@@ -18,14 +18,6 @@ use Rattle.graph.proofs.Grid.{grid-same, with-hit, with-miss}
 -- the edges e, with those of the first n pairs that the rule x gives
 unfoldable pub scanned : (ℕ → ℕ → Bool) → (ℕ → ℕ → Bool) → ℕ → ℕ → ℕ → Bool
 scanned e x n u v = e u v || (ltb (u * graphWidth + v) n && x u v)
-
-or-last : (a : Bool) → (a || true) ≡ true
-or-last true = refl
-or-last false = refl
-
-or-none : (a : Bool) → (a || false) ≡ a
-or-none true = refl
-or-none false = refl
 
 module _ (e x : ℕ → ℕ → Bool) where
   scanned-in : (n u v : ℕ) → u * graphWidth + v < n → scanned e x n u v ≡ (e u v || x u v)
@@ -46,8 +38,8 @@ module _ (e x : ℕ → ℕ → Bool) where
   here n u v b h q = go b (scanned-out n u v (λ k. absurd (omega arith))) (with-hit (scanned e x n) u v u v refl refl) ∙ ap (λ (c : Bool). e u v || c) q ∙ sym (scanned-in (n + 1) u v (omega arith))
     where
       go : (c : Bool) → scanned e x n u v ≡ e u v → withVertex (scanned e x n) u v u v ≡ true → cond c (withVertex (scanned e x n) u v) (scanned e x n) u v ≡ (e u v || c)
-      go true k l = l ∙ sym (or-last (e u v))
-      go false k l = k ∙ sym (or-none (e u v))
+      go true k l = l ∙ sym (or-true (e u v))
+      go false k l = k ∙ sym (or-false (e u v))
 
   -- another pair
   there : (n u v a c : ℕ) (b : Bool) → u * graphWidth + v ≡ n → (a * graphWidth + c ≡ n → ⊥) → cond b (withVertex (scanned e x n) u v) (scanned e x n) a c ≡ scanned e x (n + 1) a c
@@ -70,7 +62,7 @@ module _ (e x : ℕ → ℕ → Bool) where
       grid-same (scanned e x n) (λ u v. e u v || x u v) (λ u v hu hv.
       ⊎-elim (λ t. scanned-in n u v (ltb-true (u * graphWidth + v) n t)) (λ t.
       let z : x u v ≡ false = out u v (omega (arith, ltb-false (u * graphWidth + v) n t)) in
-      scanned-out n u v (λ s. z) ∙ sym (ap (λ (b : Bool). e u v || b) z ∙ or-none (e u v)))
+      scanned-out n u v (λ s. z) ∙ sym (ap (λ (b : Bool). e u v || b) z ∙ or-false (e u v)))
       (either (ltb (u * graphWidth + v) n)))
 
   -- a turn of the scan, from what `add_vertex_if` ensures

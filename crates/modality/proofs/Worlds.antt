@@ -1,7 +1,7 @@
 -- The worlds that occur on a path, gathered from its nodes.
 use Prim.Native.Nat.{ℕ, zero, suc, _+_, _-_, _%_, _<_, _≤_}
 use mathlib.Core.Path.{_≡_, refl, sym, ap, _∙_, subst}
-use mathlib.Core.Bool.{Bool, true, false, cond, _&&_, _||_, and-true, and-false}
+use mathlib.Core.Bool.{Bool, true, false, cond, _&&_, _||_, and-true, and-false, or-false}
 use mathlib.Core.List.{List, [], _∷_}
 use mathlib.Core.Option.{Option, none, some}
 use mathlib.Core.Logic.{⊎-elim, _≢_}
@@ -26,10 +26,6 @@ use Rattle.modality.specs.declared.Forking.{Forking}
 use Rattle.modality.specs.Forking.{forkOf}
 use Rattle.modality.specs.Seen.{forkedAt, brings, Seen}
 use Rattle.modality.proofs.Lists.{eqb-sym, any-none, any-or}
-
-or-false : (b : Bool) → b ≡ (b || false)
-or-false true = refl
-or-false false = refl
 
 or-turned : (a b c : Bool) → (a || (b || c)) ≡ ((b || a) || c)
 or-turned true true c = refl
@@ -83,7 +79,7 @@ module _ (t : List Node) (f : Forking) (x : ℕ) {b : Bool} (at : b ≡ (f .on &
     unfolding brings
     brings-own h v low =
         let no : forkedAt (forkOf f) v x ≡ false = forked-by v ∙ ap (λ (c : Bool). eqb v (f .world .0) && c) h ∙ and-false (eqb v (f .world .0)) in
-        own-world v low ∙ ap (λ (c : Bool). c || bitOf word v) (or-false (eqb (nodeAt t x .world) v) ∙ ap (λ (c : Bool). eqb (nodeAt t x .world) v || c) (sym no))
+        own-world v low ∙ ap (λ (c : Bool). c || bitOf word v) (sym (or-false (eqb (nodeAt t x .world) v)) ∙ ap (λ (c : Bool). eqb (nodeAt t x .world) v || c) (sym no))
 
     pub brings-forked : b ≡ true → (both : ℕ) → ((k : ℕ) → k < 32 → bitOf both k ≡ (eqb (f .world .0) k || bitOf here k)) → (v : ℕ) → v < 32 → bitOf both v ≡ (brings t (forkOf f) v x || bitOf word v)
     unfolding brings
@@ -100,12 +96,12 @@ gather-start t k len x v e = rw (no-bit v) (climb-start t (brings t k v) len x e
 
 module _ (t : List Node) (p : ℕ → Bool) {goal : Bool} (len j cur : ℕ) (word : Bool) (inv : (word || any p (upward (len - j) t cur)) ≡ goal) where
   pub gather-none : {b : Bool} → b ≡ isNobody cur → b ≡ true → word ≡ goal
-  gather-none e h = or-false word ∙ ap (λ (l : List ℕ). word || any p l) (sym (up-nobody t (len - j) cur (sym e ∙ h))) ∙ inv
+  gather-none e h = sym (or-false word) ∙ ap (λ (l : List ℕ). word || any p l) (sym (up-nobody t (len - j) cur (sym e ∙ h))) ∙ inv
 
   pub gather-end : len ≤ j → word ≡ goal
   gather-end h =
       let z : len - j ≡ 0 = omega (arith, h) in
-      or-false word ∙ ap (λ (l : List ℕ). word || any p l) (sym (ap (λ (d : ℕ). upward d t cur) z ∙ up-zero t cur)) ∙ inv
+      sym (or-false word) ∙ ap (λ (l : List ℕ). word || any p l) (sym (ap (λ (d : ℕ). upward d t cur) z ∙ up-zero t cur)) ∙ inv
 
   pub gather-next : {b : Bool} → j < len → b ≡ isNobody cur → b ≡ false → {more : Bool} (up : ℕ) → more ≡ (p cur || word) → up ≡ nodeAt t cur .parent → (more || any p (upward (len - (j + 1)) t up)) ≡ goal
   gather-next h e node {more} up q u =

@@ -1,6 +1,6 @@
 -- When the run stops, by its counts.
 use mathlib.Core.Path.{_≡_, refl, sym, ap, _∙_}
-use mathlib.Core.Bool.{Bool, true, false, _||_}
+use mathlib.Core.Bool.{Bool, true, false, _||_, or-false}
 use mathlib.Core.List.{List, [], _∷_}
 use mathlib.Core.Logic.{_≢_}
 use Prim.Native.Nat.{ℕ, _≤_, _<_}
@@ -17,10 +17,6 @@ use Rattle.definition.proofs.Lists.{or-true}
 use Rattle.arrays.specs.Listed.{Listed, listed, tooLong}
 use Rattle.proof.specs.declared.Progress.{Progress}
 use Rattle.proof.specs.Kept.{Kept, kept, full}
-
-or-false : (b : Bool) → (b || false) ≡ b
-or-false true = refl
-or-false false = refl
 
 empty-count : (l : List ℕ) (n : ℕ) → length l ≡ n → empty l ≡ eqb n 0
 empty-count [] n e = rw (← e) refl

@@ -1,4 +1,4 @@
-// Bytes that are put into a lent slice, one behind the other. What does not fit is left out.
+// Bytes that are put into a lent slice, one behind the other; what does not fit is left out. specs/Text says what text is in bytes.
 ghost use mathlib.Core.Path.{_≡_};
 ghost use mathlib.Core.List.{List, [], _∷_};
 ghost use mathlib.Core.Logic.{_⊎_};
