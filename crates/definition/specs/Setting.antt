@@ -1,4 +1,4 @@
--- What a run is asked with. Every definition that depends on any of it takes the whole.
+-- What a run is asked with. What depends on any of it takes the whole; so do the urgency of a node, the stop and late, which are the same for every setting.
 use mathlib.Core.Bool.{Bool, not, _&&_}
 use Prim.Native.Nat.{ℕ, _/_, _%_}
 use lib.Dec.{eqb}
