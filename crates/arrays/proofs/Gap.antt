@@ -6,9 +6,9 @@ use native.Mathlib.Omega.{arith}
 use lib.ListN.{length, getD, set, take, drop, List·getD-eq-default}
 use Rattle.definition.specs.Limits.{mostIdentifiers}
 use Rattle.definition.specs.Lists.{padded}
-use Rattle.definition.proofs.Lists.{length-padded}
+use Rattle.definition.proofs.Basics.Lists.{length-padded}
 use Rattle.arrays.specs.Data.{without}
-use Rattle.arrays.specs.Listed.{Listed, listed, tooLong}
+use Rattle.arrays.specs.Listed.{Listed, listed}
 use Rattle.arrays.proofs.Laws.{getD-padded, take-padded, drop-padded, length-without, getD-without, take-without, part-step, part-read, part-whole, part-begin}
 use Rattle.arrays.proofs.Listed.{listed-count, listed-array}
 

@@ -2,37 +2,31 @@
 use Prim.Native.Nat.{ℕ, _+_, _<_, _≤_}
 use mathlib.Core.Path.{_≡_, refl, sym, ap, _∙_, subst}
 use mathlib.Core.Bool.{Bool, true, false, cond}
-use mathlib.Core.List.{List, [], _∷_, _++_, map, reverse, append-nil}
+use mathlib.Core.List.{List, [], _∷_, _++_, map, append-nil}
 use native.Mathlib.Numerals.{add-one}
 use native.Mathlib.Omega.{arith}
 use native.Mathlib.Decide.{decLe}
 use borrow.Author.Tests.{eq-eqb, ne-eqb, eqb-true, eqb-false}
 use lib.Dec.{eqb}
-use lib.ListN.{length, drop, length-map, drop-of-length-le}
+use lib.ListN.{length, drop, drop-of-length-le}
 use lib.Seq.{drop-cons, set-getD}
 use Rattle.definition.specs.Limits.{mostIdentifiers, mostFormulas}
 use Rattle.arrays.specs.Listed.{Listed}
-use Rattle.definition.specs.Lists.{below, upFrom}
-use Rattle.definition.specs.Records.{Rec, nobody, marks, marksFrom, recAt}
+use Rattle.definition.specs.Lists.{upFrom}
+use Rattle.definition.specs.Records.{Rec, nobody, marksFrom, recAt}
 use Rattle.definition.specs.Tree.{Node, Place, Root, Middle, newNode, placedBelow, setChild, link, linkChain}
-use Rattle.definition.specs.Run.{rooted, branchNodes}
-use Rattle.definition.proofs.Nodes.{blank}
-use Rattle.definition.proofs.Count.{length-rooted}
+use Rattle.definition.specs.Queue.{pushTreeNode}
+use Rattle.definition.specs.Run.{rooted, branchNodes, begun}
+use Rattle.definition.proofs.Tree.Nodes.{blank}
+use Rattle.definition.proofs.Run.Queueing.{length-rooted}
 use Rattle.formula.specs.Recorded.{Recorded, missing}
 use Rattle.formula.proofs.Recorded.{recorded-count}
 use Rattle.tree.specs.declared.IssuedChain.{IssuedChain}
-use Rattle.tree.specs.Chain.{chainOf, Below, DrawnFrom}
-use Rattle.tree.specs.Lay.{placeCode, lay, Held}
+use Rattle.tree.specs.Chain.{chainOf, ChainBelow, DrawnFrom}
+use Rattle.tree.specs.Lay.{placeCode, lay, Lays, Held}
 use Rattle.tree.proofs.Chains.{spans-below, spans-chain}
 use Rattle.tree.proofs.Nodes.{held-ok, held-long, held-as}
-use Rattle.queue.specs.Pushing.{pushTreeNode}
-use Rattle.queue.proofs.Pushing.{push-begun}
 use Rattle.branch.proofs.Growth.{Growth, growth-start, growth-as, growth-next, growth-end}
-
--- ---- the count
-pub length-branch : (rs : List Rec) → length (branchNodes rs) ≡ length (marks rs)
-unfolding branchNodes
-length-branch rs = length-map (marks rs) (λ f. newNode nobody f 0)
 
 -- ---- the loop of `branch_nodes`
 -- the nodes of the records from number i on
@@ -93,7 +87,7 @@ root-chained (x ∷ xs) = ap (λ (ms : List Node). linkChain ms 0 Middle (upFrom
 
 -- the chain of all nodes, linked from its top on
 pub rooted-linked : (ns : List Node) (r : IssuedChain) {a b : List ℕ} → Held ns (r .len) a → DrawnFrom 0 r →
-    ((ms : List Node) (q : Place) → placeCode q ≡ 0 → Held ms (r .len) a → (length ms ≤ mostIdentifiers → Below (r .chain) (length ms)) → Held (linkChain ms nobody q (chainOf (r .chain))) (r .len) b) →
+    ((ms : List Node) (q : Place) → placeCode q ≡ 0 → Held ms (r .len) a → (length ms ≤ mostIdentifiers → ChainBelow (r .chain) (length ms)) → Held (linkChain ms nobody q (chainOf (r .chain))) (r .len) b) →
     Held (rooted ns) (r .len) b
 rooted-linked ns r {a} {b} p d f = elim (decLe (r .len) mostIdentifiers) [
   | yes h ↦
@@ -107,9 +101,10 @@ rooted-linked ns r {a} {b} p d f = elim (decLe (r .len) mostIdentifiers) [
 
 -- ---- the queue
 pub queued : (rs : List Rec) {len m n : ℕ} {t a b : List ℕ} → length (branchNodes rs) ≡ len → len ≤ mostIdentifiers →
-    ((ns : List Node) (q : List ℕ) → length ns ≤ mostIdentifiers → t ≡ lay ns → Listed q m a → Listed (pushTreeNode len ns q 0) n b) →
-    t ≡ lay (rooted (branchNodes rs)) → Listed [] m a → Listed (reverse (below (length (branchNodes rs)))) n b
+    ((ns : List Node) (q : List ℕ) → Lays ns t → Listed q m a → Listed (pushTreeNode len ns q 0) n b) →
+    t ≡ lay (rooted (branchNodes rs)) → Listed [] m a → Listed (begun rs .waiting) n b
+unfolding begun
 queued rs {len} {m} {n} {t} {a} {b} e few f l p =
     subst (λ (q : List ℕ). Listed q n b)
-    (ap (λ (k : ℕ). pushTreeNode k (rooted (branchNodes rs)) [] 0) (sym e) ∙ push-begun rs (omega arith))
-    (f (rooted (branchNodes rs)) [] (omega (arith, length-rooted (branchNodes rs))) l p)
+    (ap (λ (k : ℕ). pushTreeNode k (rooted (branchNodes rs)) [] 0) (sym (length-rooted (branchNodes rs) ∙ e)))
+    (f (rooted (branchNodes rs)) [] (record { fits = omega (arith, length-rooted (branchNodes rs)); laid = l }) p)

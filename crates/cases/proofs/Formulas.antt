@@ -1,16 +1,15 @@
 -- A formula's text by the links of its record.
-use Prim.Native.Nat.{ℕ, zero, suc, _+_, _*_, _≤_, _<_}
+use Prim.Native.Nat.{ℕ, zero, suc, _≤_, _<_}
 use mathlib.Core.Path.{_≡_, refl, sym, ap, _∙_}
 use mathlib.Core.Bool.{Bool, true, false, cond}
 use mathlib.Core.List.{List, [], _∷_, _++_, append-nil}
 use native.Mathlib.Omega.{arith}
 use lib.Dec.{eqb, leb, ltb}
-use lib.ListN.{getD, List·getD-eq-default}
+use lib.ListN.{List·getD-eq-default}
 use borrow.Author.Tests.{lt-ltb, le-ltb, ltb-true, eq-eqb, ne-eqb, le-leb, lt-leb}
 use Rattle.definition.specs.Limits.{mostFormulas}
 use Rattle.slices.specs.Text.{decimalOf}
 use Rattle.cases.specs.declared.digest.Digest.{Digest}
-use Rattle.cases.specs.Bytes.{twoAt}
 use Rattle.cases.specs.Text.{Fed, letterOf, hasOne, nameOf, LinksAt, linked, recordBy, formulaWithin, formulaText, formulaOrComment}
 use Rattle.cases.proofs.Fed.{and-then}
 

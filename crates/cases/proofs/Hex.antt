@@ -12,8 +12,8 @@ use lib.Pow.{pow-add}
 use lib.Seq.{drop-cons, set-at, append-snoc}
 use borrow.Author.Tests.{lt-ltb, le-ltb, leb-true}
 use Rattle.definition.specs.Lists.{below, upFrom}
-use Rattle.definition.proofs.Lists.{all-below}
-use Rattle.definition.proofs.Issued.{length-from}
+use Rattle.definition.proofs.Basics.Lists.{all-below}
+use Rattle.definition.proofs.Basics.Identifiers.{length-from}
 use Rattle.cases.specs.Bytes.{hexDigit, hexAfter, hexByte, written, decoded}
 
 -- ---- k of eight digits are read, up to i

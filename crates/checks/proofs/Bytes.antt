@@ -13,7 +13,7 @@ use borrow.Author.Tests.{eqb-true, ltb-true, lt-ltb}
 use Rattle.definition.specs.Limits.{recordLength}
 use Rattle.definition.specs.Lists.{all, below}
 use Rattle.definition.specs.Records.{Atomic, Non, And, Or, Imply, BiImply, StrictImply, Possible, Necessary, Unknown, kindOf, numberOf, arity, links, recordAt}
-use Rattle.definition.proofs.Lists.{all-below, or-cases, not-true}
+use Rattle.definition.proofs.Basics.Lists.{all-below, or-cases, not-true}
 use Rattle.checks.specs.declared.Record.{Record}
 use Rattle.checks.specs.Checked.{recordOf}
 

@@ -10,8 +10,8 @@ use Rattle.definition.specs.Limits.{recordLength, mostRecords}
 use Rattle.definition.specs.Lists.{orElse, empty}
 use Rattle.definition.specs.Records.{decode}
 use Rattle.definition.specs.Checks.{Check, Lengths, sheetChecks, flagChecks, trayChecks, recordChecks, markChecks, checks, firstOf, refused}
-use Rattle.definition.proofs.Lists.{true-false, find-append}
-use Rattle.definition.proofs.Accepted.{Passed, none-passed, passed-both, sheet-passed}
+use Rattle.definition.proofs.Basics.Lists.{true-false, find-append}
+use Rattle.definition.proofs.Run.Accepted.{Passed, none-passed, passed-both, sheet-passed}
 use Rattle.checks.specs.Checked.{isRefusal}
 
 pub or-first : (o p : Option Check) → isRefusal o ≡ true → o ≡ orElse o p

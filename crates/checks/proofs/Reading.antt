@@ -15,8 +15,8 @@ use Rattle.definition.specs.Limits.{recordLength, mostRecords, mostSize}
 use Rattle.definition.specs.Lists.{below, padded}
 use Rattle.definition.specs.Records.{Rec, recordAt, decode, marksFrom, marks}
 use Rattle.definition.specs.Checks.{Check, expandedSize, checksOfRecord, recordChecks, firstOf}
-use Rattle.definition.proofs.Lists.{from-get}
-use Rattle.definition.proofs.Accepted.{length-decode, small}
+use Rattle.definition.proofs.Basics.Lists.{from-get}
+use Rattle.definition.proofs.Run.Accepted.{length-decode, small}
 use Rattle.checks.specs.declared.Record.{Record}
 use Rattle.checks.specs.Checked.{recordOf, isRefusal}
 use Rattle.checks.proofs.Found.{part-passed, found-before, found-after}

@@ -16,13 +16,13 @@ use Rattle.definition.specs.Records.{Rec, nobody}
 use Rattle.definition.specs.Tree.{Node, Place, Root, Left, Middle, Right, Unplaced, nodeAt, isLeaf, leaves}
 use Rattle.definition.specs.Subtree.{takes}
 use Rattle.definition.specs.Contradiction.{Pair, isPair, mark, markAll, pairs}
-use Rattle.definition.proofs.Nodes.{length-marks}
-use Rattle.definition.proofs.Treed.{spots, placed, In, Treed}
-use Rattle.definition.proofs.Growing.{marks-keep}
-use Rattle.definition.proofs.Partners.{pairOf}
-use Rattle.definition.proofs.Fresh.{bareAt, pairAt, closedAt, newPairs, Above, Since, above-marked, pairAt-marked, closedAt-marked, open-new, since-marks, since-open}
-use Rattle.tree.specs.Lay.{lay, placeCode, Held}
-use Rattle.tree.proofs.Nodes.{held-ok, held-as, held-long}
+use Rattle.definition.proofs.Tree.Nodes.{length-marks}
+use Rattle.definition.specs.TreeShape.{spots, placed, In, Treed}
+use Rattle.definition.proofs.Run.TreeKept.{marks-keep}
+use Rattle.definition.specs.Shortcuts.{pairOf, bareAt, pairAt, closedAt, newPairs, NoPairAbove, CheckedAt}
+use Rattle.definition.proofs.Engine.NewLeaves.{above-marked, pairAt-marked, closedAt-marked, open-new, since-marks, since-open}
+use Rattle.tree.specs.Lay.{Lays, placeCode, Held}
+use Rattle.tree.proofs.Nodes.{held-ok, held-lays, held-as, held-long}
 
 -- ---- the path of one node
 code-placed : (p : Place) {v : ℕ} → v ≡ placeCode p → v ≢ 65535 → placed p ≡ true
@@ -90,9 +90,9 @@ marking-start rs {t} {old} {len} {a} h =
 module _ {rs : List Rec} {t : List Node} {old len : ℕ} {a : List ℕ} {every : Bool} {k : ℕ} (m : Marking rs t old len a every k) where
   -- what is done at node x
   abbrev Marks : ℕ → Bool → List ℕ → Type 0
-  Marks x b z = (ms : List Node) → Held ms len a → Above rs ms old → old ≤ x → Held (mark ms (pairAt rs ms x)) len z × (b ≡ closedAt rs ms x)
+  Marks x b z = (ms : List Node) → Held ms len a → NoPairAbove rs ms old → old ≤ x → Held (mark ms (pairAt rs ms x)) len z × (b ≡ closedAt rs ms x)
 
-  pub marking-next : {x : ℕ} {b now : Bool} {z : List ℕ} → Above rs t old → old ≤ k → x ≡ k → Marks x b z → now ≡ (every && b) → Marking rs t old len z now (k + 1)
+  pub marking-next : {x : ℕ} {b now : Bool} {z : List ℕ} → NoPairAbove rs t old → old ≤ k → x ≡ k → Marks x b z → now ≡ (every && b) → Marking rs t old len z now (k + 1)
   marking-next {x} {b} {now} {z} o low e f q =
       let ps = newPairs rs t old (k - old) in
       let v = markAll t ps in
@@ -122,7 +122,7 @@ empty-listed (x ∷ l) {n = n} (listed b e q) = ne-eqb n 0 (λ z. omega (arith, 
 empty-listed [] (tooLong b e) = absurd (omega arith)
 empty-listed (x ∷ l) {n = n} (tooLong b e) = ne-eqb n 0 (λ z. omega (arith, e, z))
 
-module _ (rs : List Rec) (t : List Node) {old len : ℕ} {a z : List ℕ} {every : Bool} (s : Since rs t old) (h : Held t len a) (few : len ≤ mostIdentifiers)
+module _ (rs : List Rec) (t : List Node) {old len : ℕ} {a z : List ℕ} {every : Bool} (s : CheckedAt rs t old) (h : Held t len a) (few : len ≤ mostIdentifiers)
     (m : Held (markAll t (newPairs rs t old (len - old))) len z × (every ≡ all (closedAt rs t) (upFrom (len - old) old))) where
   abbrev u : List Node
   u = markAll t (pairs rs t (leaves t))
@@ -139,9 +139,9 @@ module _ (rs : List Rec) (t : List Node) {old len : ℕ} {a z : List ℕ} {every
   pub checked-open : every ≡ false → Held u len z × (len ≤ mostIdentifiers → false ≡ all isPair (pairs rs t (leaves t)))
   checked-open e = (marked, λ _. sym (open-new rs t (s .over .treed) (len - old) old (sym (m .1) ∙ e)))
 
-  pub checked-closed : {r : Bool} → ((ns : List Node) → Treed ns → length ns ≡ len → len ≤ mostIdentifiers → z ≡ lay ns → r ≡ empty (filter (takes ns 0) (leaves ns))) →
+  pub checked-closed : {r : Bool} → ((ns : List Node) → Treed ns → length ns ≡ len → Lays ns z → r ≡ empty (filter (takes ns 0) (leaves ns))) →
       Held u len z × (len ≤ mostIdentifiers → r ≡ all isPair (pairs rs t (leaves t)))
   checked-closed f =
-      let ok = held-ok marked few in
+      let k = held-lays marked few in
       let small : length t ≤ nobody = omega (arith, size, few) in
-      (marked, λ _. f u (marks-keep (pairs rs t (leaves t)) t .treed (s .over .treed) (omega (arith, ok .0, few))) (ok .0) few (ok .1) ∙ since-open rs t old s small)
+      (marked, λ _. f u (marks-keep (pairs rs t (leaves t)) t .treed (s .over .treed) (omega (arith, k .fits))) (held-ok marked few .0) k ∙ since-open rs t old s small)

@@ -1,7 +1,7 @@
 -- The search of a path for a pair.
 use Prim.Native.Nat.{ℕ, zero, suc, _+_, _-_, _<_, _≤_}
 use mathlib.Core.Path.{_≡_, refl, sym, ap, _∙_, subst}
-use mathlib.Core.Bool.{Bool, true, false, cond, not, _&&_, _||_, and-false}
+use mathlib.Core.Bool.{Bool, true, false, cond, _&&_, and-false}
 use mathlib.Core.List.{List, [], _∷_, _++_, reverse, reverse-append}
 use mathlib.Core.Option.{Option, none, some, Option·map}
 use mathlib.Core.Logic.{_⊎_, inl, inr, ⊎-elim, _≢_}
@@ -14,29 +14,18 @@ use Rattle.definition.specs.Lists.{find, orElse, empty}
 use Rattle.definition.specs.Records.{Rec, nobody, isNobody, formulaOf}
 use Rattle.definition.specs.Tree.{Node, nodeAt, upward, path}
 use Rattle.definition.specs.Contradiction.{Pair, pair, said, denied, opposed, areFormulasContradictory, areNodesContradictory, isPair, getContradictoryNodeIds}
-use Rattle.definition.proofs.Lists.{true-false, alike, either, and-left, and-right}
-use Rattle.definition.proofs.Nodes.{blank}
-use Rattle.definition.proofs.Treed.{spots, In, Treed, depth-low}
-use Rattle.definition.proofs.Partners.{earlier, partner, pairOf, path-nobody, pair-below}
-use Rattle.definition.proofs.Fresh.{Above}
+use Rattle.definition.proofs.Basics.Lists.{true-false, alike, either, and-left, and-right}
+use Rattle.definition.proofs.Tree.Nodes.{blank}
+use Rattle.definition.specs.TreeShape.{spots, In}
+use Rattle.definition.proofs.Tree.Shape.{depth-low}
+use Rattle.definition.specs.Shortcuts.{earlier, partner, pairOf, NoPairAbove}
+use Rattle.definition.proofs.Paths.Pairs.{path-nobody, pair-below}
+use Rattle.tree.proofs.Paths.{up-nobody, climb-none, climb-next, climb-end}
 use Rattle.semantics.specs.declared.Claim.{Claim}
 use Rattle.semantics.specs.Literal.{atomsIn, Claims}
 use Rattle.contradictions.specs.Found.{known}
 
 -- ---- the way up
-up-none : (t : List Node) (d x : ℕ) {b : Bool} → b ≡ isNobody x → b ≡ true → upward d t x ≡ []
-unfolding upward
-up-none t zero x e h = refl
-up-none t (suc d) x e h = rw (← e, h) refl
-
-up-end : (t : List Node) (d x : ℕ) → d ≡ 0 → upward d t x ≡ []
-unfolding upward
-up-end t d x e = rw e
-
-up-node : (t : List Node) (d e x up : ℕ) {b : Bool} → d ≡ suc e → b ≡ isNobody x → b ≡ false → up ≡ nodeAt t x .parent → upward d t x ≡ x ∷ upward e t up
-unfolding upward
-up-node t d e x up z q h u = rw (z, ← q, h, u) refl
-
 -- what is above x
 up-tail : (t : List Node) (d x : ℕ) → length t ≤ mostIdentifiers → drop 1 (upward d t x) ≡ upward (d - 1) t (nodeAt t x .parent)
 unfolding upward
@@ -50,7 +39,7 @@ up-tail t (suc d) x h = ⊎-elim (λ e. none-above e) (λ e. rw e (ap (λ (k : �
     none-above e =
         let q : x ≡ nobody = eqb-true x nobody e in
         let out : nodeAt t x ≡ blank = List·getD-eq-default t blank {n = x} (omega (arith, h, q)) in
-        rw e (sym (up-none t (suc d - 1) (nodeAt t x .parent) {b = true} (rw out) refl))
+        rw e (sym (up-nobody t (suc d - 1) (nodeAt t x .parent) (rw out)))
 
 -- ---- two nodes
 module _ (rs : List Rec) (t : List Node) (x y : ℕ) {v w : ℕ} {b : Bool} (ev : v ≡ nodeAt t x .world) (ew : w ≡ nodeAt t y .world) (e : b ≡ eqb v w) where
@@ -66,7 +55,7 @@ module _ (rs : List Rec) (t : List Node) (x y : ℕ) {v w : ℕ} {b : Bool} (ev 
 pub claims-as : (rs : List Rec) {f g : ℕ} {c : Claim} → f ≡ g → Claims rs (formulaOf rs f) c → Claims rs (formulaOf rs g) c
 claims-as rs {c = c} e k = subst (λ (v : ℕ). Claims rs (formulaOf rs v) c) e k
 
--- ---- the loop of `find_above`: the nodes from cur on are left, and the last hit stands for those before
+-- ---- the climb of `find_above`: the first that is found from the root on among what is left, and else the last one met
 else-none : {A : Type 0} (o : Option A) → orElse o none ≡ o
 else-none none = refl
 else-none (some x) = refl
@@ -89,39 +78,37 @@ module _ (rs : List Rec) (t : List Node) (x : ℕ) where
   abbrev against : ℕ → Bool
   against = areNodesContradictory rs t x
 
-  pub record Seeking (len cur last k : ℕ) : Type 0 where
-    pub rest : orElse (find against (reverse (upward (len - k) t cur))) (known last) ≡ partner rs t x
+  abbrev sought : ℕ → List ℕ → Option ℕ
+  sought last xs = orElse (find against (reverse xs)) (known last)
 
-  pub seeking-start : (len cur last k : ℕ) → length t ≡ len → len ≤ mostIdentifiers → cur ≡ nodeAt t x .parent → last ≡ nobody → k ≡ 1 → Seeking len cur last k
+  pub record Seeking (len cur last k : ℕ) : Type 0 where
+    pub rest : sought last (upward (len - k) t cur) ≡ partner rs t x
+
+  pub seeking-start : (len cur last k : ℕ) → length t ≡ len → length t ≤ mostIdentifiers → cur ≡ nodeAt t x .parent → last ≡ nobody → k ≡ 1 → Seeking len cur last k
   unfolding partner earlier path
   seeking-start len cur last k e h c l one =
       record {
         rest =
             rw (l, one, c) (else-none (find against (reverse (upward (len - 1) t (nodeAt t x .parent))))
-            ∙ ap (λ (xs : List ℕ). find against (reverse xs)) (ap (λ (n : ℕ). upward (n - 1) t (nodeAt t x .parent)) (sym e) ∙ sym (up-tail t (length t) x (omega arith))));
+            ∙ ap (λ (xs : List ℕ). find against (reverse xs)) (ap (λ (n : ℕ). upward (n - 1) t (nodeAt t x .parent)) (sym e) ∙ sym (up-tail t (length t) x h)));
       }
 
   module _ {len cur last k : ℕ} (s : Seeking len cur last k) where
-    ended : upward (len - k) t cur ≡ [] → Option·map (pair x) (known last) ≡ Option·map (pair x) (partner rs t x)
-    ended e = ap (Option·map (pair x)) (sym (ap (λ (xs : List ℕ). orElse (find against (reverse xs)) (known last)) e) ∙ s .rest)
-
     pub seeking-none : {b : Bool} → b ≡ isNobody cur → b ≡ true → Option·map (pair x) (known last) ≡ Option·map (pair x) (partner rs t x)
-    seeking-none e h = ended (up-none t (len - k) cur e h)
+    seeking-none e h = ap (Option·map (pair x)) (climb-none t (sought last) len k cur (s .rest) e h)
 
     pub seeking-end : len ≤ k → Option·map (pair x) (known last) ≡ Option·map (pair x) (partner rs t x)
-    seeking-end h = ended (up-end t (len - k) cur (omega arith))
+    seeking-end h = ap (Option·map (pair x)) (climb-end t (sought last) len k cur (s .rest) h)
 
     pub seeking-next : {b hit : Bool} (up now : ℕ) → k < len → b ≡ isNobody cur → b ≡ false → hit ≡ against cur → now ≡ cond hit cur last → up ≡ nodeAt t cur .parent → Seeking len up now (k + 1)
     seeking-next {b} {hit} up now h e node q z u =
-        let d : len - k ≡ suc (len - (k + 1)) = omega arith in
         let more = upward (len - (k + 1)) t up in
         record {
           rest =
               rw z (sym (hit-or (find against (reverse more)) hit cur last (sym e ∙ node))
               ∙ ap (λ (c : Bool). orElse (orElse (find against (reverse more)) (cond c (some cur) none)) (known last)) q
               ∙ ap (λ (o : Option ℕ). orElse o (known last)) (sym (find-snoc against (reverse more) cur) ∙ ap (find against) (sym (reverse-append (cur ∷ []) more)))
-              ∙ ap (λ (xs : List ℕ). orElse (find against (reverse xs)) (known last)) (sym (up-node t (len - k) (len - (k + 1)) cur up d e node u))
-              ∙ s .rest);
+              ∙ climb-next t (sought last) len k cur (s .rest) h e node up u);
         }
 
   -- a formula that says and denies nothing
@@ -149,11 +136,11 @@ module _ (rs : List Rec) (t : List Node) (x : ℕ) where
 
 -- ---- the loop of `get_contradictory_node_ids`: the pair of the leaf is that of cur, which is in the tree or its root's parent
 pub record Searching (rs : List Rec) (t : List Node) (old leaf cur len k : ℕ) : Type 0 where
-  pub over : Above rs t old
+  pub over : NoPairAbove rs t old
   pub same : pairOf rs t cur ≡ pairOf rs t leaf
   pub at : (In (spots t) cur × (k + over .treed .depth cur < len) × ((old ≤ cur) ⊎ (pairOf rs t cur ≡ none))) ⊎ (cur ≡ nobody)
 
-pub searching-start : (rs : List Rec) (t : List Node) (old leaf len : ℕ) → length t ≡ len → Above rs t old → In (spots t) leaf → old ≤ leaf → Searching rs t old leaf leaf len 0
+pub searching-start : (rs : List Rec) (t : List Node) (old leaf len : ℕ) → length t ≡ len → NoPairAbove rs t old → In (spots t) leaf → old ≤ leaf → Searching rs t old leaf leaf len 0
 searching-start rs t old leaf len e a i l =
     record { over = a; same = refl; at = inl (i, omega (arith, e, depth-low t (a .treed) leaf i), inl l) }
 

@@ -1,6 +1,5 @@
 // Contradictions of the paths: path.rs's get_contradictory_node_ids and tree.rs's check_for_contradictions.
 // A tree that was checked when it had fewer nodes is searched at the leaves that are new, and there from the new nodes alone.
-// Of a call whose arrays lay out nothing of the kind that its contract names: it ends and stays in bounds; its outcome is free.
 use graph::PossibleWorld;
 use limits::Formulas;
 use limits::MOST_IDENTIFIERS;
@@ -9,6 +8,7 @@ use semantics::Claim;
 use semantics::claim_of;
 use semantics::contradicts;
 use semantics::is_no_literal;
+use tree::PLACE_UNPLACED;
 use tree::ProofTreeNodeID;
 use tree::formula_of;
 use tree::id_at;
@@ -30,12 +30,11 @@ ghost use Rattle.definition.specs.Records.{Rec, formulaOf};
 ghost use Rattle.definition.specs.Tree.{Node, nodeAt, leaves};
 ghost use Rattle.definition.specs.Subtree.{takes};
 ghost use Rattle.definition.specs.Contradiction.{pair, areNodesContradictory, isPair, mark, markAll, pairs};
-ghost use Rattle.definition.proofs.Treed.{spots, In, Treed};
-ghost use Rattle.definition.proofs.Partners.{partner, pairOf};
-ghost use Rattle.definition.proofs.Fresh.{pairAt, closedAt, newPairs, Above, Since};
+ghost use Rattle.definition.specs.TreeShape.{spots, In, Treed};
+ghost use Rattle.definition.specs.Shortcuts.{partner, pairOf, pairAt, closedAt, newPairs, NoPairAbove, CheckedAt};
 ghost use Rattle.formula.specs.Recorded.{Recorded};
 ghost use Rattle.semantics.specs.Literal.{Claims};
-ghost use Rattle.tree.specs.Lay.{lay, Held};
+ghost use Rattle.tree.specs.Lay.{Lays, Held};
 ghost use Rattle.contradictions.specs.Found.{found, known};
 
 // What the search of a path finds: nothing, or a node and an earlier one that contradict one another.
@@ -66,14 +65,14 @@ fn are_nodes_contradictory(
     world: PossibleWorld,
     formulas: &Formulas,
     count: usize,
-    tree: &Nodes,
+    nodes: &Nodes,
     y: ProofTreeNodeID,
 ) -> bool
     ensures { λ r. ⌜ ((rs : List Rec) (ns : List Node) (x : ℕ) → Claims rs (formulaOf rs (nodeAt ns x .formula)) c → world .0 ≡ nodeAt ns x .world
-        → Recorded rs count (now (formulas .entry)) → count ≤ mostFormulas → length ns ≤ mostIdentifiers → now (tree .entry) ≡ lay ns → r ≡ areNodesContradictory rs ns x (y .0)) ⌝ }
+        → Recorded rs count (now (formulas .entry)) → count ≤ mostFormulas → Lays ns (now (nodes .entry)) → r ≡ areNodesContradictory rs ns x (y .0)) ⌝ }
 {
-    if world.is(world_of(tree, y)) {
-        return contradicts(c, formulas, count, formula_of(tree, y));
+    if world.is(world_of(nodes, y)) {
+        return contradicts(c, formulas, count, formula_of(nodes, y));
     }
     false
 }
@@ -106,24 +105,24 @@ fn find_above(
     c: Claim,
     formulas: &Formulas,
     count: usize,
-    tree: &Nodes,
+    nodes: &Nodes,
     len: usize,
     x: ProofTreeNodeID,
 ) -> Contradiction
-    ensures { λ r. ⌜ ((rs : List Rec) (ns : List Node) → Claims rs (formulaOf rs (nodeAt ns (x .0) .formula)) c → Recorded rs count (now (formulas .entry)) → count ≤ mostFormulas → length ns ≡ len → len ≤ mostIdentifiers → now (tree .entry) ≡ lay ns
+    ensures { λ r. ⌜ ((rs : List Rec) (ns : List Node) → Claims rs (formulaOf rs (nodeAt ns (x .0) .formula)) c → Recorded rs count (now (formulas .entry)) → count ≤ mostFormulas → length ns ≡ len → Lays ns (now (nodes .entry))
         → found r ≡ Option·map (pair (x .0)) (partner rs ns (x .0))) ⌝ }
 {
-    let world = world_of(tree, x);
+    let world = world_of(nodes, x);
     let mut last = ProofTreeNodeID::NONE;
-    let mut cur = parent_of(tree, x);
+    let mut cur = parent_of(nodes, x);
     let mut k: usize = 1;
     while k < len {
         if cur.is_none() {
             return pair_with(x, last);
         }
-        let hit = are_nodes_contradictory(c, world, formulas, count, tree, cur);
+        let hit = are_nodes_contradictory(c, world, formulas, count, nodes, cur);
         last = latest(hit, cur, last);
-        cur = parent_of(tree, cur);
+        cur = parent_of(nodes, cur);
         k += 1;
     }
     pair_with(x, last)
@@ -133,31 +132,31 @@ fn find_above(
 fn find_earlier(
     formulas: &Formulas,
     count: usize,
-    tree: &Nodes,
+    nodes: &Nodes,
     len: usize,
     x: ProofTreeNodeID,
 ) -> Contradiction
-    ensures { λ r. ⌜ ((rs : List Rec) (ns : List Node) → Recorded rs count (now (formulas .entry)) → count ≤ mostFormulas → length ns ≡ len → len ≤ mostIdentifiers → now (tree .entry) ≡ lay ns
+    ensures { λ r. ⌜ ((rs : List Rec) (ns : List Node) → Recorded rs count (now (formulas .entry)) → count ≤ mostFormulas → length ns ≡ len → Lays ns (now (nodes .entry))
         → found r ≡ Option·map (pair (x .0)) (partner rs ns (x .0))) ⌝ }
 {
-    let c = claim_of(formulas, count, formula_of(tree, x));
+    let c = claim_of(formulas, count, formula_of(nodes, x));
     if is_no_literal(c) {
         return Contradiction::None;
     }
-    find_above(c, formulas, count, tree, len, x)
+    find_above(c, formulas, count, nodes, len, x)
 }
 
 // The pair of the path of a new leaf: from the leaf upward, as long as the nodes are new.
 fn get_contradictory_node_ids(
     formulas: &Formulas,
     count: usize,
-    tree: &Nodes,
+    nodes: &Nodes,
     len: usize,
     old: usize,
     leaf: ProofTreeNodeID,
 ) -> Contradiction
-    ensures { λ r. ⌜ ((rs : List Rec) (ns : List Node) → Recorded rs count (now (formulas .entry)) → count ≤ mostFormulas → length ns ≡ len → len ≤ mostIdentifiers → now (tree .entry) ≡ lay ns
-        → Above rs ns old → In (spots ns) (leaf .0) → old ≤ leaf .0 → found r ≡ pairOf rs ns (leaf .0)) ⌝ }
+    ensures { λ r. ⌜ ((rs : List Rec) (ns : List Node) → Recorded rs count (now (formulas .entry)) → count ≤ mostFormulas → length ns ≡ len → Lays ns (now (nodes .entry))
+        → NoPairAbove rs ns old → In (spots ns) (leaf .0) → old ≤ leaf .0 → found r ≡ pairOf rs ns (leaf .0)) ⌝ }
 {
     let mut cur = leaf;
     let mut k: usize = 0;
@@ -168,24 +167,24 @@ fn get_contradictory_node_ids(
         if (cur.0 as usize) < old {
             return Contradiction::None;
         }
-        let c = find_earlier(formulas, count, tree, len, cur);
+        let c = find_earlier(formulas, count, nodes, len, cur);
         if is_pair(c) {
             return c;
         }
-        cur = parent_of(tree, cur);
+        cur = parent_of(nodes, cur);
         k += 1;
     }
     Contradiction::None
 }
 
 // The later node of a pair is marked against the earlier.
-fn mark_pair(tree: &mut Nodes, len: usize, c: Contradiction)
-    ensures { λ r. ⌜ ((ns : List Node) → Held ns len (now (tree .entry)) → Held (mark ns (found c)) len (now (tree .exit))) ⌝ }
+fn mark_pair(nodes: &mut Nodes, len: usize, c: Contradiction)
+    ensures { λ r. ⌜ ((ns : List Node) → Held ns len (now (nodes .entry)) → Held (mark ns (found c)) len (now (nodes .exit))) ⌝ }
 {
     match c {
         Contradiction::None => {}
         Contradiction::Between { later, earlier } => {
-            mark_child_node_as_contradictory(tree, len, later, earlier);
+            mark_child_node_as_contradictory(nodes, len, later, earlier);
         }
     }
 }
@@ -194,20 +193,20 @@ fn mark_pair(tree: &mut Nodes, len: usize, c: Contradiction)
 fn mark_path(
     formulas: &Formulas,
     count: usize,
-    tree: &mut Nodes,
+    nodes: &mut Nodes,
     len: usize,
     old: usize,
     x: ProofTreeNodeID,
 ) -> bool
-    ensures { λ r. ⌜ ((rs : List Rec) (ns : List Node) → Recorded rs count (now (formulas .entry)) → count ≤ mostFormulas → Held ns len (now (tree .entry)) → len ≤ mostIdentifiers → Above rs ns old → old ≤ x .0
-        → Held (mark ns (pairAt rs ns (x .0))) len (now (tree .exit)) × (r ≡ closedAt rs ns (x .0))) ⌝ }
+    ensures { λ r. ⌜ ((rs : List Rec) (ns : List Node) → Recorded rs count (now (formulas .entry)) → count ≤ mostFormulas → Held ns len (now (nodes .entry)) → len ≤ mostIdentifiers → NoPairAbove rs ns old → old ≤ x .0
+        → Held (mark ns (pairAt rs ns (x .0))) len (now (nodes .exit)) × (r ≡ closedAt rs ns (x .0))) ⌝ }
 {
-    if place_of(tree, x) == 65535 {
+    if place_of(nodes, x) == PLACE_UNPLACED {
         return true;
     }
-    if is_leaf(tree, x) {
-        let c = get_contradictory_node_ids(formulas, count, tree, len, old, x);
-        mark_pair(tree, len, c);
+    if is_leaf(nodes, x) {
+        let c = get_contradictory_node_ids(formulas, count, nodes, len, old, x);
+        mark_pair(nodes, len, c);
         return is_pair(c);
     }
     true
@@ -220,9 +219,9 @@ fn and(a: bool, b: bool) -> bool
 }
 
 // Marks path by path, by the new leaves; whether each has a pair.
-fn mark_paths(formulas: &Formulas, count: usize, tree: &mut Nodes, len: usize, old: usize) -> bool
-    ensures { λ r. ⌜ ((rs : List Rec) (ns : List Node) → Recorded rs count (now (formulas .entry)) → count ≤ mostFormulas → Held ns len (now (tree .entry)) → len ≤ mostIdentifiers → Above rs ns old
-        → Held (markAll ns (newPairs rs ns old (len - old))) len (now (tree .exit)) × (r ≡ all (closedAt rs ns) (upFrom (len - old) old))) ⌝ }
+fn mark_paths(formulas: &Formulas, count: usize, nodes: &mut Nodes, len: usize, old: usize) -> bool
+    ensures { λ r. ⌜ ((rs : List Rec) (ns : List Node) → Recorded rs count (now (formulas .entry)) → count ≤ mostFormulas → Held ns len (now (nodes .entry)) → len ≤ mostIdentifiers → NoPairAbove rs ns old
+        → Held (markAll ns (newPairs rs ns old (len - old))) len (now (nodes .exit)) × (r ≡ all (closedAt rs ns) (upFrom (len - old) old))) ⌝ }
 {
     let mut every = true;
     let mut k = old;
@@ -231,7 +230,7 @@ fn mark_paths(formulas: &Formulas, count: usize, tree: &mut Nodes, len: usize, o
             return every;
         }
         let x = id_at(k);
-        let closed = mark_path(formulas, count, tree, len, old, x);
+        let closed = mark_path(formulas, count, nodes, len, old, x);
         every = and(every, closed);
         k += 1;
     }
@@ -239,12 +238,12 @@ fn mark_paths(formulas: &Formulas, count: usize, tree: &mut Nodes, len: usize, o
 }
 
 // No path is without a contradictory node.
-fn is_closed(tree: &Nodes, len: usize) -> bool
-    ensures { λ r. ⌜ ((ns : List Node) → Treed ns → length ns ≡ len → len ≤ mostIdentifiers → now (tree .entry) ≡ lay ns → r ≡ empty (filter (takes ns 0) (leaves ns))) ⌝ }
+fn is_closed(nodes: &Nodes, len: usize) -> bool
+    ensures { λ r. ⌜ ((ns : List Node) → Treed ns → length ns ≡ len → Lays ns (now (nodes .entry)) → r ≡ empty (filter (takes ns 0) (leaves ns))) ⌝ }
 {
     let mut open = [0u16; MOST_IDENTIFIERS];
     let root = ProofTreeNodeID::ROOT;
-    takers(tree, len, root, &mut open) == 0
+    takers(nodes, len, root, &mut open) == 0
 }
 
 // Marks the pair of each path; whether every path has one. Nothing is marked where there are too many nodes.
@@ -252,22 +251,22 @@ fn is_closed(tree: &Nodes, len: usize) -> bool
 pub fn check_for_contradictions(
     formulas: &Formulas,
     count: usize,
-    tree: &mut Nodes,
+    nodes: &mut Nodes,
     len: usize,
     old: usize,
 ) -> bool
-    ensures { λ r. ⌜ ((rs : List Rec) (ns : List Node) → Recorded rs count (now (formulas .entry)) → count ≤ mostFormulas → Held ns len (now (tree .entry)) → (len ≤ mostIdentifiers → Since rs ns old)
-        → Held (markAll ns (pairs rs ns (leaves ns))) len (now (tree .exit)) × (len ≤ mostIdentifiers → r ≡ all isPair (pairs rs ns (leaves ns)))) ⌝ }
+    ensures { λ r. ⌜ ((rs : List Rec) (ns : List Node) → Recorded rs count (now (formulas .entry)) → count ≤ mostFormulas → Held ns len (now (nodes .entry)) → (len ≤ mostIdentifiers → CheckedAt rs ns old)
+        → Held (markAll ns (pairs rs ns (leaves ns))) len (now (nodes .exit)) × (len ≤ mostIdentifiers → r ≡ all isPair (pairs rs ns (leaves ns)))) ⌝ }
 {
     if MOST_IDENTIFIERS < len {
         return false;
     }
-    let every = mark_paths(formulas, count, tree, len, old);
+    let every = mark_paths(formulas, count, nodes, len, old);
     if len <= old {
         return false;
     }
     if every {
-        return is_closed(tree, len);
+        return is_closed(nodes, len);
     }
     false
 }

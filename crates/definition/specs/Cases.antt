@@ -1,4 +1,4 @@
--- "Starred cases are the table to prove": one table, and one claim over it, proved in proofs/Computed.
+-- "Starred cases are the table to prove": one table, and one claim over it.
 use mathlib.Core.Path.{_≡_}
 use mathlib.Core.Bool.{Bool, true, false, cond}
 use mathlib.Core.List.{List, [], _∷_, _++_, map}

@@ -31,7 +31,7 @@ pub record Beyond (n : ℕ) (before after : List ℕ) : Type 0 where
   pub rest : drop n after ≡ drop n before
 
 -- "Only these lengths are written; anything beyond stays"
-pub record Kept (before after : Trays) : Type 0 where
+pub record TraysKept (before after : Trays) : Type 0 where
   pub nodes : Beyond nodeTrayLength (before .nodes) (after .nodes)
   pub formulas : Beyond formulaTrayLength (before .formulas) (after .formulas)
   pub edges : Beyond edgeTrayLength (before .edges) (after .edges)

@@ -14,6 +14,9 @@ pub mod Modality
 pub mod Queue
 pub mod Contradiction
 pub mod Run
+pub mod Reached
+pub mod TreeShape
+pub mod Shortcuts
 pub mod Trays
 pub mod Fits
 pub mod Call

@@ -41,13 +41,13 @@ unfoldable pub unvisited : Graph → Necessity → List ℕ
 unvisited g n = filter (λ v. not (elem v (n .visited))) (reached g (n .world))
 
 -- nodes made, by identifier, and the subtrees that they form
-pub record Made : Type 0 where
+pub record Reapplication : Type 0 where
   pub nodes : List Node
   pub subtrees : List Targeted
 
 -- path by path, each "gives a node, below the last one"; "what a path gives goes on that path alone".
 -- next is the next identifier; "Reapplied nodes have the necessity as spawner"
-unfoldable pub giveOn : List Node → Option Fork → Necessity → List ℕ → ℕ → List ℕ → Made
+unfoldable pub giveOn : List Node → Option Fork → Necessity → List ℕ → ℕ → List ℕ → Reapplication
 giveOn t k n worlds next [] = record { nodes = []; subtrees = [] }
 giveOn t k n worlds next (leaf ∷ more) =
     let here = filter (occurs t k (path t leaf)) worlds in
@@ -61,7 +61,7 @@ giveOn t k n worlds next (leaf ∷ more) =
 unfoldable pub leavesOf : List Node → Necessity → List ℕ
 leavesOf t n = filter (λ leaf. runsThrough n (path t leaf)) (leaves t)
 
-unfoldable pub reapplyNecessity : List Node → Graph → Option Fork → ℕ → Necessity → Made
+unfoldable pub reapplyNecessity : List Node → Graph → Option Fork → ℕ → Necessity → Reapplication
 reapplyNecessity t g k next n = giveOn t k n (unvisited g n) next (leavesOf t n)
 
 -- "Those worlds are then marked visited for all those paths together": where there is such a path
@@ -74,11 +74,11 @@ visiting t g n =
 unfoldable pub isReapplied : List Node → Fork → Necessity → Bool
 isReapplied t k n = any (λ leaf. elem (k .node) (path t leaf)) (leavesOf t n)
 
-unfoldable pub reapplyIfOnPath : List Node → Graph → Fork → ℕ → Necessity → Made
+unfoldable pub reapplyIfOnPath : List Node → Graph → Fork → ℕ → Necessity → Reapplication
 reapplyIfOnPath t g k next n = cond (isReapplied t k n) (reapplyNecessity t g (some k) next n) (record { nodes = []; subtrees = [] })
 
 -- "in pop_necessity_reapplication order": the last one pushed first
-unfoldable pub reapplyNecessityAfterPossibility : List Node → Graph → Fork → ℕ → List Necessity → Made
+unfoldable pub reapplyNecessityAfterPossibility : List Node → Graph → Fork → ℕ → List Necessity → Reapplication
 reapplyNecessityAfterPossibility t g k next [] = record { nodes = []; subtrees = [] }
 reapplyNecessityAfterPossibility t g k next (n ∷ ns) =
     let one = reapplyIfOnPath t g k next n in

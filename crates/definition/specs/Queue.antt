@@ -2,11 +2,11 @@
 use mathlib.Core.Bool.{Bool, cond}
 use mathlib.Core.List.{List, [], _∷_, _++_}
 use mathlib.Core.Option.{Option, none, some}
-use Prim.Native.Nat.{ℕ}
+use Prim.Native.Nat.{ℕ, zero, suc}
 use lib.Dec.{eqb}
 use lib.ListN.{getD}
 use Rattle.definition.specs.Lists.{below, orElse}
-use Rattle.definition.specs.Records.{Non, Rec, numberOf, is, recAt, formulaOf}
+use Rattle.definition.specs.Records.{Non, Rec, numberOf, is, isNobody, recAt, formulaOf}
 use Rattle.definition.specs.Setting.{Setting}
 use Rattle.definition.specs.Tree.{Node, nodeAt}
 
@@ -55,3 +55,12 @@ popClass F rs t q (c ∷ cs) =
 -- "The first waiting node of the most urgent class is taken out"
 unfoldable pub pop : Setting → List Rec → List Node → List ℕ → Option Popped
 pop F rs t q = popClass F rs t q classes
+
+-- `push_tree_node`: the nodes at and below x after q, left, middle and right, then x itself; n bounds the depth. A tree meets each node once, so
+-- that no test for a second time is needed
+unfoldable pub pushTreeNode : ℕ → List Node → List ℕ → ℕ → List ℕ
+pushTreeNode zero t q x = q
+pushTreeNode (suc n) t q x =
+    let c = nodeAt t x .children in
+    let further = pushTreeNode n t (pushTreeNode n t (pushTreeNode n t q (c .left)) (c .middle)) (c .right) ++ (x ∷ []) in
+    cond (isNobody x) q further

@@ -1,4 +1,4 @@
--- Refusals 1 to 11: each with its place, and each beside the next check where both can apply. Proved in proofs/Computed.
+-- Refusals 1 to 11: each with its place, and each beside the next check where both can apply.
 use mathlib.Core.Path.{_≡_}
 use mathlib.Core.List.{List, [], _∷_, _++_, map}
 use Prim.Native.Nat.{ℕ, _-_}

@@ -1,12 +1,12 @@
 -- "The run": the rule of a node applied, the start, a step, and the steps until none is due. The names are those of proof.rs, logic.rs, tree.rs and common_modal_logic.rs.
 use mathlib.Core.Bool.{Bool, false, _||_, cond}
-use mathlib.Core.List.{List, [], _∷_, _++_, map, reverse}
+use mathlib.Core.List.{List, [], _∷_, _++_, map}
 use mathlib.Core.Option.{Option, none, some}
 use Prim.Native.Nat.{ℕ, zero, suc, _<_, _+_}
 use lib.Dec.{leb, ltb}
 use lib.ListN.{length}
 use Rattle.definition.specs.Limits.{mostIdentifiers, worldLimit}
-use Rattle.definition.specs.Lists.{upFrom, below, all, elem, filter, empty}
+use Rattle.definition.specs.Lists.{upFrom, all, elem, filter, empty}
 use Rattle.definition.specs.Records.{Rec, marks, nobody}
 use Rattle.definition.specs.Setting.{Setting}
 use Rattle.definition.specs.Graph.{Graph, emptyGraph, initializeGraphIfNeeded, forkedWorld, fork}
@@ -14,7 +14,7 @@ use Rattle.definition.specs.Tree.{Node, Root, Middle, newNode, nodeAt, p
 use Rattle.definition.specs.Rules.{Rule, nothing, down, split, asPossible, asNecessary, expansion}
 use Rattle.definition.specs.Subtree.{Subtree, Targeted, withMiddle, withLeftRight, flat, turned, numbered, appendLogicRuleResult}
 use Rattle.definition.specs.Modality.{Necessity, Fork, reapplyNecessity, visiting, reapplyNecessityAfterPossibility, necessitiesAfterPossibility}
-use Rattle.definition.specs.Queue.{Popped, pop}
+use Rattle.definition.specs.Queue.{Popped, pop, pushTreeNode}
 use Rattle.definition.specs.Contradiction.{pairs, markAll, isPair}
 
 -- formulas: "input and made"; necessities: the stack, the last one pushed first; waiting: the queue
@@ -160,15 +160,16 @@ rooted (x ∷ xs) = linkChain (placedBelow nobody Root x ∷ xs) 0 Middle (upFro
 unfoldable pub branchNodes : List Rec → List Node
 branchNodes rs = map (λ f. newNode nobody f 0) (marks rs)
 
--- "The root is queued by one push_tree_node": children before the node itself
+-- "The root is queued by one push_tree_node"
 unfoldable pub begun : List Rec → State
 begun rs =
+    let t = rooted (branchNodes rs) in
     record {
       formulas = rs;
-      nodes = rooted (branchNodes rs);
+      nodes = t;
       graph = emptyGraph;
       necessities = [];
-      waiting = reverse (below (length (branchNodes rs)));
+      waiting = pushTreeNode (length t) t [] 0;
       proved = false;
       steps = 0;
     }

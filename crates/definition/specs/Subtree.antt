@@ -45,7 +45,7 @@ pub record Placed : Type 0 where
   pub nodes : List Node
   pub waiting : List ℕ
 
--- "the original's left, middle, right", of each chain the children before the node itself; "each identifier once": proofs/Count
+-- "the original's left, middle, right", of each chain the children before the node itself; "each identifier once": Claims.QueueCounts
 unfoldable pub pushSubtree : List ℕ → Subtree → List ℕ
 pushSubtree q s = q ++ flat (turned s)
 

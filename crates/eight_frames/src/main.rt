@@ -2,5 +2,5 @@
 fn main() {
     let mut kept = [0u8; frames::KEPT_LENGTH];
     let mut text = [0u8; frames::TEXT_LENGTH];
-    frames::run(&mut kept, &mut text);
+    frames::run(os::arg_count(), &mut kept, &mut text);
 }

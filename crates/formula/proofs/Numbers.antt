@@ -8,7 +8,7 @@ use borrow.Author.Tests.{eq-eqb, ne-eqb}
 use lib.ListN.{length, getD, List·getD-eq-default}
 use Rattle.definition.specs.Limits.{mostFormulas}
 use Rattle.definition.specs.Records.{Kind, Atomic, Non, And, Or, Imply, BiImply, StrictImply, Possible, Necessary, Unknown, Comment, Rec, made, numberOf, kindOf, recAt, formulaOf}
-use Rattle.definition.proofs.Lists.{alike}
+use Rattle.definition.proofs.Basics.Lists.{alike}
 use Rattle.definition.specs.Setting.{Setting}
 use Rattle.definition.specs.Queue.{priorities, prioritiesOfNon, priorityOf}
 use Rattle.formula.specs.Priority.{priorityBy}

@@ -6,33 +6,18 @@ use native.Mathlib.Omega.{arith}
 use lib.ListN.{length, getD, set, replicate, length-append, List·getD-eq-default}
 use Rattle.definition.specs.Limits.{mostFormulas}
 use Rattle.limits.specs.Arrays.{formulaFields, formulaCells}
-use Rattle.definition.specs.Lists.{padded}
-use Rattle.arrays.proofs.Laws.{getD-padded, sets-padded}
+use Rattle.definition.specs.Lists.{concatMap, padded}
+use Rattle.arrays.proofs.Laws.{getD-padded}
+use Rattle.arrays.proofs.Rows.{rows-read, stored-push}
 use Rattle.definition.specs.Records.{Rec, numberOf, kindOf, recAt}
-use Rattle.formula.specs.Recorded.{column, missing, flat, row, Recorded, recorded, tooMany}
+use Rattle.formula.specs.Recorded.{column, missing, cells, row, Recorded, recorded, tooMany}
 
--- ---- rows
-first : (j : ℕ) (r : Rec) (rs : List Rec) → j < formulaFields → getD (flat (r ∷ rs)) j 0 ≡ column j r
-first zero r rs h = refl
-first (suc zero) r rs h = refl
-first (suc (suc zero)) r rs h = refl
-first (suc (suc (suc zero))) r rs h = refl
-first (suc (suc (suc (suc j)))) r rs h = absurd (omega arith)
-
-flat-read : (rs : List Rec) (i j : ℕ) → i < length rs → j < formulaFields → getD (flat rs) (i * formulaFields + j) 0 ≡ column j (getD rs i missing)
-flat-read [] i j g h = absurd (omega arith)
-flat-read (r ∷ rs) zero j g h = let z : 0 * formulaFields + j ≡ j = omega arith in ap (λ (k : ℕ). getD (flat (r ∷ rs)) k 0) z ∙ first j r rs h
-flat-read (r ∷ rs) (suc i) j g h =
-    let z : suc i * formulaFields + j ≡ suc (suc (suc (suc (i * formulaFields + j)))) = omega arith in
-    ap (λ (k : ℕ). getD (flat (r ∷ rs)) k 0) z ∙ flat-read rs i j (omega arith) h
-
-flat-length : (rs : List Rec) → length (flat rs) ≡ length rs * formulaFields
-flat-length [] = refl
-flat-length (r ∷ rs) = omega (arith, flat-length rs)
-
-flat-snoc : (rs : List Rec) (x : Rec) → flat (rs ++ (x ∷ [])) ≡ flat rs ++ flat (x ∷ [])
-flat-snoc [] x = refl
-flat-snoc (r ∷ rs) x = ap (λ (l : List ℕ). numberOf (r .kind) ∷ r .mark ∷ r .left ∷ r .right ∷ l) (flat-snoc rs x)
+cell : (j : ℕ) (r : Rec) → j < formulaFields → getD (cells r) j 0 ≡ column j r
+cell zero r h = refl
+cell (suc zero) r h = refl
+cell (suc (suc zero)) r h = refl
+cell (suc (suc (suc zero))) r h = refl
+cell (suc (suc (suc (suc j)))) r h = absurd (omega arith)
 
 -- ---- the relation
 -- the table of no record
@@ -60,7 +45,8 @@ read-far {rs} i j none p h g e = sym e ∙ ap (column j) (sym (recAt-far rs i (o
 pub read-at : {rs : List Rec} {n : ℕ} {a : List ℕ} (i j : ℕ) → Recorded rs n a → n ≤ mostFormulas → i < n → j < formulaFields → getD a (i * formulaFields + j) 0 ≡ column j (recAt rs i)
 unfolding recAt
 read-at {rs} {n} {a} i j (recorded b e q) h g l =
-    ap (λ (m : List ℕ). getD m (i * formulaFields + j) 0) q ∙ getD-padded formulaCells (flat rs) (i * formulaFields + j) ∙ flat-read rs i j (omega arith) l
+    ap (λ (m : List ℕ). getD m (i * formulaFields + j) 0) q ∙ getD-padded formulaCells (concatMap cells rs) (i * formulaFields + j)
+    ∙ rows-read cells (λ r. refl) rs missing i j 0 (λ past. absurd (omega arith)) l ∙ cell j (getD rs i missing) l
 read-at i j (tooMany b e) h g l = absurd (omega arith)
 
 -- ---- pushes
@@ -71,11 +57,5 @@ push-over {rs} x (tooMany b e) h = tooMany (omega arith) (omega (arith, length-a
 pub push-at : {rs : List Rec} {n : ℕ} {a : List ℕ} (k m l r v : ℕ) → v ≡ numberOf (kindOf k) → Recorded rs n a → n < mostFormulas
     → Recorded (rs ++ (row k m l r ∷ [])) (n + 1) (set (set (set (set a (n * formulaFields) v) (n * formulaFields + 1) m) (n * formulaFields + 2) l) (n * formulaFields + 3) r)
 push-at {rs} {n} {a} k m l r v d (recorded b e q) h =
-    let x = row k m l r in
-    let g : length (flat rs) ≡ n * formulaFields = flat-length rs ∙ ap (λ (k : ℕ). k * formulaFields) e in
-    let e1 : n * formulaFields + 1 ≡ suc (n * formulaFields) = omega arith in
-    let e2 : n * formulaFields + 2 ≡ suc (suc (n * formulaFields)) = omega arith in
-    let e3 : n * formulaFields + 3 ≡ suc (suc (suc (n * formulaFields))) = omega arith in
-    recorded (omega arith) (omega (arith, length-append rs (x ∷ [])))
-    (rw (d, q, e1, e2, e3, ← g, flat-snoc) (sets-padded formulaCells (flat (x ∷ [])) (flat rs) (omega arith)))
+    recorded (omega arith) (omega (arith, length-append rs (row k m l r ∷ []))) (rw d (stored-push cells (λ x. refl) rs (row k m l r) q e (omega arith)))
 push-at k m l r v d (tooMany b e) h = absurd (omega arith)

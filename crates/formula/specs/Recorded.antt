@@ -5,7 +5,7 @@ use mathlib.Core.List.{List, [], _∷_}
 use lib.ListN.{length}
 use Rattle.definition.specs.Limits.{mostFormulas}
 use Rattle.limits.specs.Arrays.{formulaCells}
-use Rattle.definition.specs.Lists.{padded}
+use Rattle.definition.specs.Lists.{concatMap, padded}
 use Rattle.definition.specs.Records.{Rec, Unknown, made, numberOf, kindOf}
 
 -- field j of a record
@@ -19,14 +19,13 @@ column (suc (suc (suc j))) r = r .right
 abbrev pub missing : Rec
 missing = made Unknown 0 0
 
--- the rows of the records, one after the other
-abbrev pub flat : List Rec → List ℕ
-flat [] = []
-flat (r ∷ rs) = numberOf (r .kind) ∷ r .mark ∷ r .left ∷ r .right ∷ flat rs
+-- the row of a record
+abbrev pub cells : Rec → List ℕ
+cells r = numberOf (r .kind) ∷ r .mark ∷ r .left ∷ r .right ∷ []
 
 -- the array holds the records, and count is how many; a count above `mostFormulas` says that there are too many, and nothing of the array
 pub data Recorded (rs : List Rec) (count : ℕ) (a : List ℕ) : Type 0 where
-  recorded : count ≤ mostFormulas → length rs ≡ count → a ≡ padded formulaCells (flat rs) → Recorded rs count a
+  recorded : count ≤ mostFormulas → length rs ≡ count → a ≡ padded formulaCells (concatMap cells rs) → Recorded rs count a
   tooMany : mostFormulas < count → mostFormulas < length rs → Recorded rs count a
 
 -- the record with this kind number and these fields; a number above 8 is no kind of the table

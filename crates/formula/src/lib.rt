@@ -1,5 +1,4 @@
 // Formulas as numbered records, four numbers to a record (kind, mark, left, right), in one lent array.
-// Of a call whose arrays lay out nothing of the kind that its contract names: it ends and stays in bounds; its outcome is free.
 use limits::FORMULA_FIELDS;
 use limits::FORMULAS_FULL;
 use limits::Formulas;
@@ -15,15 +14,20 @@ ghost use Rattle.definition.specs.Queue.{priorityOf};
 ghost use Rattle.formula.specs.Priority.{priorityBy};
 ghost use Rattle.formula.specs.Recorded.{Recorded, column, missing, row};
 
-// The number of a formula: an input record or one that a rule made; 65535 is a comment's.
+// The number of a formula: an input record or one that a rule made.
 pub struct FormulaNumber(pub u16);
 
-// The number of the next record that is made; 65535 where there are too many.
+impl FormulaNumber {
+    // The number that stands for a comment.
+    pub const COMMENT: FormulaNumber = FormulaNumber(65535);
+}
+
+// The number of the next record that is made; where there are too many, that of a comment, which names no record.
 pub fn next_formula(count: usize) -> FormulaNumber
     ensures { λ r. ⌜ (count ≤ mostFormulas → r .0 ≡ count) × (mostFormulas < count → r .0 ≡ nobody) ⌝ }
 {
     if MOST_FORMULAS < count {
-        return FormulaNumber(65535);
+        return FormulaNumber::COMMENT;
     }
     FormulaNumber(count as u16)
 }
@@ -74,7 +78,7 @@ pub fn right_at(formulas: &Formulas, count: usize, f: FormulaNumber) -> FormulaN
 pub fn formula_kind(formulas: &Formulas, count: usize, f: FormulaNumber) -> u16
     ensures { λ r. ⌜ ((rs : List Rec) → Recorded rs count (now (formulas .entry)) → count ≤ mostFormulas → r ≡ numberOf (formulaOf rs (f .0) .kind)) ⌝ }
 {
-    if f.0 == 65535 {
+    if f.0 == FormulaNumber::COMMENT.0 {
         return 10;
     }
     kind_at(formulas, count, f)

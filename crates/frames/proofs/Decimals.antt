@@ -1,12 +1,12 @@
 -- The digits that `io::decimal` writes are the decimal digits of the number.
-use mathlib.Core.Path.{_≡_, refl, sym, _∙_, ap, subst}
-use mathlib.Core.Bool.{Bool, true, false, cond}
+use mathlib.Core.Path.{_≡_, refl, ap, subst}
+use mathlib.Core.Bool.{Bool, true, false}
 use mathlib.Core.List.{List, [], _∷_, _++_}
 use Prim.Native.Nat.{ℕ, zero, suc, _+_, _*_, _-_, _/_, _%_, _^_, _≤_, _<_}
 use native.Mathlib.Omega.{arith}
 use native.Mathlib.Nat.{pow-suc, pow-le-pow-right}
 use borrow.Author.Tests.{lt-ltb, le-ltb, leb-true, leb-false}
-use lib.Dec.{ltb, leb}
+use lib.Dec.{leb}
 use lib.ListN.{length, take, length-append}
 use Rattle.io.specs.Digits.{glyph, digits, Fewest}
 use Rattle.slices.specs.Text.{decimalWithin, decimalOf}

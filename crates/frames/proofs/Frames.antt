@@ -1,6 +1,6 @@
 -- The lines one after the other, and what the window of an input prints.
-use mathlib.Core.Path.{_≡_, refl, sym, _∙_, ap, subst}
-use mathlib.Core.List.{List, [], _∷_, _++_}
+use mathlib.Core.Path.{_≡_, refl, _∙_, ap, subst}
+use mathlib.Core.List.{List, _++_}
 use mathlib.Core.Logic.{⊎-elim}
 use Prim.Native.Nat.{ℕ, zero, suc, _+_, _≤_, _<_}
 use native.Mathlib.Omega.{arith}
@@ -19,7 +19,7 @@ use Rattle.frames.specs.Put.{Put}
 use Rattle.frames.specs.Window.{windowLength, keptLength, Window, Windowed}
 use Rattle.frames.proofs.Answering.{answer-lengths, answer-overlong}
 use Rattle.frames.proofs.Texts.{put-put, put-counts}
-use Rattle.frames.proofs.Windows.{within, window-exact, window-over}
+use Rattle.frames.proofs.Windows.{within, window-over}
 
 -- the line of the call's answer, whatever the trays lent held
 pub put-answer : {text now : List ℕ} {at r : ℕ} (a : Answer) (branch : List ℕ) (flags : ℕ) (lent : Trays) → said a ≡ answer branch flags lent → lengthsOf lent ≡ lengthsOf zeroTrays

@@ -1,6 +1,6 @@
 -- The lines of the flags 0 to 7.
 use mathlib.Core.List.{List, [], _++_}
-use Prim.Native.Nat.{ℕ, zero, suc, _≤_}
+use Prim.Native.Nat.{ℕ, zero, suc}
 use mathlib.Core.Path.{_≡_}
 use lib.ListN.{take}
 use Rattle.definition.specs.Trays.{zeroTrays}
@@ -8,7 +8,7 @@ use Rattle.definition.specs.Call.{answer}
 use Rattle.frames.specs.Line.{lineOf}
 use Rattle.frames.specs.Window.{Window}
 use Rattle.frames.specs.declared.Ran.{Ran}
-use Rattle.frames.specs.declared.Ran.the-variants.{ReadFailed, WriteFailed, Done}
+use Rattle.frames.specs.declared.Ran.the-variants.{ArgumentGiven, ReadFailed, WriteFailed, Done}
 
 -- the lines of the flags below n
 unfoldable pub linesBelow : ℕ → List ℕ → List ℕ
@@ -24,8 +24,9 @@ pub record Printed (kept text : List ℕ) (seen printed : ℕ) : Type 0 where
   pub held : Window whole kept seen
   pub lines : take printed text ≡ eightLines whole
 
--- what a run leaves in what it was lent: after a read error, any bytes
+-- what a run without arguments leaves in what it was lent: after a read error, any bytes
 abbrev pub Runs : List ℕ → List ℕ → Ran → Type 0
+Runs kept text ArgumentGiven = ⊥
 Runs kept text ReadFailed = Unit {0}
 Runs kept text (WriteFailed seen printed) = Printed kept text seen printed
 Runs kept text (Done seen printed) = Printed kept text seen printed

@@ -47,8 +47,9 @@ enum Input {
     Seen { seen: usize },
 }
 
-// What came of a run: an error, or what was read and printed.
+// What came of a run: an argument that is not taken, an error, or what was read and printed.
 pub enum Ran {
+    ArgumentGiven,
     ReadFailed,
     WriteFailed { seen: usize, printed: usize },
     Done { seen: usize, printed: usize },
@@ -280,7 +281,7 @@ fn print(text: &[u8], printed: usize) -> bool
 
 // Reads standard input and prints its eight lines. An error is reported on standard error; after a
 // read error nothing is printed on standard output.
-pub fn run(kept: &mut KeptBytes, text: &mut TextBytes) -> Ran
+fn answer_input(kept: &mut KeptBytes, text: &mut TextBytes) -> Ran
     ensures { λ r. ⌜ Runs (now (kept .exit)) (now (text .exit)) r ⌝ }
 {
     match read_all(kept) {
@@ -297,4 +298,22 @@ pub fn run(kept: &mut KeptBytes, text: &mut TextBytes) -> Ran
             Ran::WriteFailed { seen, printed }
         }
     }
+}
+
+// The program, started with so many words, its own name among them. With a further word nothing is
+// read or printed; it is reported on standard error.
+pub fn run(words: usize, kept: &mut KeptBytes, text: &mut TextBytes) -> Ran
+    ensures { λ r. ⌜ (1 < words → r ≡ Ran.ArgumentGiven) ⌝ }
+    ensures { λ _. ⌜ (1 < words → now (kept .exit) ≡ now (kept .entry)) ⌝ }
+    ensures { λ _. ⌜ (1 < words → now (text .exit) ≡ now (text .entry)) ⌝ }
+    ensures { λ r. ⌜ (words ≤ 1 → Runs (now (kept .exit)) (now (text .exit)) r) ⌝ }
+{
+    if 1 < words {
+        io::write_all(
+            libc::STDERR_FILENO,
+            b"no arguments are taken: records come on standard input (README.md)\n",
+        );
+        return Ran::ArgumentGiven;
+    }
+    answer_input(kept, text)
 }

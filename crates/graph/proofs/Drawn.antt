@@ -12,8 +12,8 @@ use Rattle.definition.specs.Limits.{graphWidth}
 use Rattle.limits.specs.Arrays.{edgeCells}
 use Rattle.definition.specs.Lists.{any, upFrom, below}
 use Rattle.definition.specs.Graph.{Graph, edge, graphOf, emptyGraph, addMissingReflexiveVertices, addMissingSymmetricVertices, paired, addMissingTransitiveVertices}
-use Rattle.definition.proofs.Lists.{true-false, and-left, and-right, or-cases, either, any-below}
-use Rattle.definition.proofs.Edges.{edge-graph}
+use Rattle.definition.proofs.Basics.Lists.{true-false, and-left, and-right, or-cases, either, any-below}
+use Rattle.definition.proofs.Soundness.Edges.{edge-graph}
 use Rattle.graph.specs.Drawn.{flag, grid, Drawn}
 use Rattle.graph.proofs.Grid.{edge-of, grid-cell, grid-by, grid-same}
 use Rattle.graph.proofs.Scan.{any-false}

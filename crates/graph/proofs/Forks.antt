@@ -10,7 +10,7 @@ use borrow.Author.Tests.{leb-true, leb-false, eqb-true, le-ltb, eq-eqb, ne-eqb}
 use Rattle.definition.specs.Limits.{graphWidth}
 use Rattle.definition.specs.Setting.{Setting}
 use Rattle.definition.specs.Graph.{Graph, edge, graphOf, addMissingReflexiveVertices, addMissingSymmetricVertices, addMissingTransitiveVertices, addMissingGraphVertices, initializeGraphIfNeeded, fork}
-use Rattle.definition.proofs.Lists.{true-false, and-left, and-right, or-cases, either}
+use Rattle.definition.proofs.Basics.Lists.{true-false, and-left, and-right, or-cases, either}
 use Rattle.graph.specs.Drawn.{grid, withVertex, Drawn}
 use Rattle.graph.proofs.Grid.{grid-same}
 use Rattle.graph.proofs.Drawn.{drawn-out, drawn-graph, within}

@@ -13,8 +13,8 @@ use Rattle.definition.specs.Limits.{graphWidth}
 use Rattle.limits.specs.Arrays.{edgeCells}
 use Rattle.definition.specs.Lists.{upFrom, below}
 use Rattle.definition.specs.Graph.{edge, graphOf}
-use Rattle.definition.proofs.Lists.{either}
-use Rattle.definition.proofs.Issued.{length-from}
+use Rattle.definition.proofs.Basics.Lists.{either}
+use Rattle.definition.proofs.Basics.Identifiers.{length-from}
 use Rattle.graph.specs.Drawn.{flag, grid, withVertex}
 
 -- element k of a rule's list, or the default past its end

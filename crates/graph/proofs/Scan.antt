@@ -11,7 +11,7 @@ use borrow.Author.Tests.{ltb-true, ltb-false, eqb-true, eqb-false, lt-ltb, le-lt
 use Rattle.definition.specs.Limits.{graphWidth}
 use Rattle.limits.specs.Arrays.{edgeCells}
 use Rattle.definition.specs.Lists.{any, upFrom}
-use Rattle.definition.proofs.Lists.{either}
+use Rattle.definition.proofs.Basics.Lists.{either}
 use Rattle.graph.specs.Drawn.{grid, withVertex}
 use Rattle.graph.proofs.Grid.{grid-same, with-hit, with-miss}
 

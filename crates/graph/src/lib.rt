@@ -1,5 +1,4 @@
 // The world graph.
-// Of a call whose arrays lay out nothing of the kind that its contract names: it ends and stays in bounds; its outcome is free.
 mod missing_vertices;
 pub mod vertices;
 
@@ -24,12 +23,15 @@ pub struct PossibleWorld(pub u16);
 impl PossibleWorld {
     pub const ZERO: PossibleWorld = PossibleWorld(0);
 
+    // No world: what a node that is not there has; also the last index, which no graph has room for.
+    pub const NONE: PossibleWorld = PossibleWorld(65535);
+
     // The next world. The last index stays.
     fn fork(self) -> PossibleWorld
         ensures { λ r. ⌜ r .0 ≡ min (suc (self .0)) 65535 ⌝ }
     {
         if self.0 == 65535 {
-            return PossibleWorld(65535);
+            return PossibleWorld::NONE;
         }
         PossibleWorld(self.0 + 1)
     }
@@ -112,7 +114,7 @@ pub fn forked_world(worlds: usize) -> PossibleWorld
         return PossibleWorld::ZERO;
     }
     if 65535 < worlds {
-        return PossibleWorld(65535);
+        return PossibleWorld::NONE;
     }
     PossibleWorld((worlds - 1) as u16).fork()
 }

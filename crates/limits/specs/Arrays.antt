@@ -22,7 +22,7 @@ edgeCells = graphWidth * graphWidth
 
 -- so many numbers to a stored necessity
 abbrev pub necessityFields : ℕ
-necessityFields = 3
+necessityFields = 5
 
 abbrev pub necessityCells : ℕ
 necessityCells = mostIdentifiers * necessityFields

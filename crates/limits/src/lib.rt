@@ -50,7 +50,7 @@ pub const FORMULA_CELLS: usize = MOST_FORMULAS * FORMULA_FIELDS;
 
 pub const EDGE_CELLS: usize = GRAPH_WIDTH * GRAPH_WIDTH;
 
-pub const NECESSITY_FIELDS: usize = 3;
+pub const NECESSITY_FIELDS: usize = 5;
 
 pub const NECESSITY_CELLS: usize = MOST_IDENTIFIERS * NECESSITY_FIELDS;
 
@@ -104,13 +104,13 @@ pub type Formulas = [u16; FORMULA_CELLS];
 // The edges, a row of GRAPH_WIDTH flags for each world.
 pub type Edges = [u8; EDGE_CELLS];
 
-// The stored necessities, a row of NECESSITY_FIELDS numbers each.
-pub type Necessities = [u16; NECESSITY_CELLS];
+// The stored necessities, a row of NECESSITY_FIELDS numbers each, from the bottom of the stack to the top.
+pub type Necessities = [u32; NECESSITY_CELLS];
 
 // The leaves of the stored necessities, a row of MOST_IDENTIFIERS bits each.
 pub type Leaves = [u32; LEAF_WORDS];
 
-// A word of worlds for each necessity, or for each node: bit v is world v.
+// A word of worlds for each node: bit v is world v.
 pub type Worlds = [u32; MOST_IDENTIFIERS];
 
 // Subtrees that are to be placed, a row of ITEM_FIELDS numbers each.
@@ -121,6 +121,3 @@ pub type Waiting = Numbers;
 
 // The classes of those that wait, in the same order.
 pub type Classes = Numbers;
-
-// The rows of the stored necessities, from the bottom of the stack to the top.
-pub type Order = Numbers;

@@ -11,14 +11,14 @@ use Rattle.definition.specs.Lists.{Each}
 use Rattle.definition.specs.Graph.{Graph}
 use Rattle.definition.specs.Tree.{Node}
 use Rattle.definition.specs.Subtree.{Targeted}
-use Rattle.definition.specs.Modality.{Necessity, Fork, Made, visiting, isReapplied, reapplyIfOnPath, reapplyNecessityAfterPossibility, necessitiesAfterPossibility}
-use Rattle.definition.proofs.Lists.{each-get}
+use Rattle.definition.specs.Modality.{Necessity, Fork, Reapplication, visiting, isReapplied, reapplyIfOnPath, reapplyNecessityAfterPossibility, necessitiesAfterPossibility}
+use Rattle.definition.proofs.Basics.Lists.{each-get}
 use Rattle.tree.specs.Lay.{Held}
 use Rattle.tree.proofs.Nodes.{held-long, held-as}
 use Rattle.necessities.specs.Stack.{Stack}
-use Rattle.subtree.specs.Rows.{Row}
-use Rattle.logic.specs.declared.Given.{Given}
-use Rattle.logic.specs.Gave.{Listing, Gave}
+use Rattle.subtree.specs.Items.{Item, Listing}
+use Rattle.subtree.specs.declared.Counts.{Counts}
+use Rattle.logic.specs.Gave.{Gave}
 use Rattle.logic.proofs.Listings.{listing-both}
 
 -- f of the first i
@@ -53,34 +53,34 @@ module _ (t : List Node) (g : Graph) (fk : Fork) where
   abbrev pub after : Necessity → Necessity
   after n = cond (isReapplied t fk n) (visiting t g n) n
 
-  abbrev left : List Node → List Necessity → Made
+  abbrev left : List Node → List Necessity → Reapplication
   left more rest = reapplyNecessityAfterPossibility t g fk (length (t ++ more)) rest
 
   -- the first i are done
-  pub record Again (ns : List Necessity) (goal : List Node) (rs : List Row) (subtrees : List Targeted) (c i : ℕ) (r : Given) (ta ia oa ra la va : List ℕ) : Type 0 where
+  pub record Again (ns : List Necessity) (goal : List Node) (rs : List Item) (subtrees : List Targeted) (c i : ℕ) (r : Counts) (ta ia na la : List ℕ) : Type 0 where
     pub more : List Node
     pub done : List Targeted
     pub held : Held (t ++ more) (r .nodes) ta
     pub nodes : (t ++ more) ++ left more (drop i ns) .nodes ≡ goal
     pub items : done ++ left more (drop i ns) .subtrees ≡ subtrees
-    pub rows : r .nodes ≤ mostIdentifiers → Listing rs done (r .items) (r .nodes) ia
-    pub stack : r .nodes ≤ mostIdentifiers → Stack (mapped after i ns) c oa ra la va
+    pub rows : r .nodes ≤ mostIdentifiers → Listing rs done (r .listed) (r .nodes) ia
+    pub stack : r .nodes ≤ mostIdentifiers → Stack (mapped after i ns) c na la
 
-  pub again-start : (more : List Node) (ns : List Necessity) (rs : List Row) {c : ℕ} (r : Given) {ta ia oa ra la va : List ℕ} → Stack ns c oa ra la va → Held (t ++ more) (r .nodes) ta →
-      (r .nodes ≤ mostIdentifiers → Listing rs [] (r .items) (r .nodes) ia) → Again ns ((t ++ more) ++ left more ns .nodes) rs (left more ns .subtrees) c 0 r ta ia oa ra la va
+  pub again-start : (more : List Node) (ns : List Necessity) (rs : List Item) {c : ℕ} (r : Counts) {ta ia na la : List ℕ} → Stack ns c na la → Held (t ++ more) (r .nodes) ta →
+      (r .nodes ≤ mostIdentifiers → Listing rs [] (r .listed) (r .nodes) ia) → Again ns ((t ++ more) ++ left more ns .nodes) rs (left more ns .subtrees) c 0 r ta ia na la
   unfolding mapped
   again-start more ns rs r s h l = record { more = more; done = []; held = h; nodes = refl; items = refl; rows = l; stack = λ _. s }
 
-  module _ {ns : List Necessity} {goal : List Node} {rs : List Row} {subtrees : List Targeted} {c i : ℕ} {r : Given} {ta ia oa ra la va : List ℕ} (z : Again ns goal rs subtrees c i r ta ia oa ra la va) where
+  module _ {ns : List Necessity} {goal : List Node} {rs : List Item} {subtrees : List Targeted} {c i : ℕ} {r : Counts} {ta ia na la : List ℕ} (z : Again ns goal rs subtrees c i r ta ia na la) where
     -- full
     pub again-full : mostIdentifiers < r .nodes → Held goal (r .nodes) ta
     again-full big = held-long goal (z .held) big (omega (arith, ap length (z .nodes), length-append (t ++ z .more) (left (z .more) (drop i ns) .nodes)))
 
-    pub again-next : (none : Necessity) → i < length ns → (small : r .nodes ≤ mostIdentifiers) {r′ : Given} {tb ib vb : List ℕ} → let m = mapped after i ns in
+    pub again-next : (none : Necessity) → i < length ns → (small : r .nodes ≤ mostIdentifiers) {r′ : Counts} {tb ib nb : List ℕ} → let m = mapped after i ns in
         Gave (t ++ z .more) (z .rows small .all) (reapplyIfOnPath t g fk (length (t ++ z .more)) (getD m i none)) r′ tb ib →
-        (r′ .nodes ≤ mostIdentifiers → Stack (set m i (after (getD m i none))) c oa ra la vb) → Again ns goal rs subtrees c (i + 1) r′ tb ib oa ra la vb
+        (r′ .nodes ≤ mostIdentifiers → Stack (set m i (after (getD m i none))) c nb la) → Again ns goal rs subtrees c (i + 1) r′ tb ib nb la
     unfolding reapplyNecessityAfterPossibility
-    again-next none low small {r′} {tb} {ib} {vb} gave stack =
+    again-next none low small {r′} {tb} {ib} {nb} gave stack =
         let o : suc i ≡ i + 1 = omega arith in
         let n = getD ns i none in
         let e : getD (mapped after i ns) i none ≡ n = mapped-at after i ns none in
@@ -103,21 +103,21 @@ module _ (t : List Node) (g : Graph) (fk : Fork) where
               ∙ ap (λ (l : List Necessity). z .done ++ left (z .more) l .subtrees) (sym d) ∙ z .items;
           rows = λ fits. listing-both (z .done) (one .subtrees) (z .rows small) (got .rows fits);
           stack = λ fits.
-              subst (λ (l : List Necessity). Stack l c oa ra la vb) (ap (λ (k : Necessity). set (mapped after i ns) i (after k)) e ∙ mapped-set after i ns none low ∙ ap (λ (k : ℕ). mapped after k ns) o) (stack fits);
+              subst (λ (l : List Necessity). Stack l c nb la) (ap (λ (k : Necessity). set (mapped after i ns) i (after k)) e ∙ mapped-set after i ns none low ∙ ap (λ (k : ℕ). mapped after k ns) o) (stack fits);
         }
 
-    pub again-end : c ≤ i → length ns ≡ c → i ≤ c → Held goal (r .nodes) ta × (r .nodes ≤ mostIdentifiers → Listing rs subtrees (r .items) (r .nodes) ia) × (r .nodes ≤ mostIdentifiers → Stack (map after ns) c oa ra la va)
+    pub again-end : c ≤ i → length ns ≡ c → i ≤ c → Held goal (r .nodes) ta × (r .nodes ≤ mostIdentifiers → Listing rs subtrees (r .listed) (r .nodes) ia) × (r .nodes ≤ mostIdentifiers → Stack (map after ns) c na la)
     unfolding reapplyNecessityAfterPossibility
     again-end past count low =
         let b : length ns ≤ i = omega (arith, past, count) in
         let d : drop i ns ≡ [] = drop-of-length-le ns b in
         let e : i ≡ length ns = omega (arith, past, low, count) in (
           held-as goal (sym (append-nil (t ++ z .more)) ∙ ap (λ (l : List Necessity). (t ++ z .more) ++ left (z .more) l .nodes) (sym d) ∙ z .nodes) (z .held),
-          λ fits. subst (λ (l : List Targeted). Listing rs l (r .items) (r .nodes) ia) (sym (append-nil (z .done)) ∙ ap (λ (l : List Necessity). z .done ++ left (z .more) l .subtrees) (sym d) ∙ z .items) (z .rows fits),
-          λ fits. subst (λ (l : List Necessity). Stack l c oa ra la va) (ap (λ (k : ℕ). mapped after k ns) e ∙ mapped-all after ns) (z .stack fits),
+          λ fits. subst (λ (l : List Targeted). Listing rs l (r .listed) (r .nodes) ia) (sym (append-nil (z .done)) ∙ ap (λ (l : List Necessity). z .done ++ left (z .more) l .subtrees) (sym d) ∙ z .items) (z .rows fits),
+          λ fits. subst (λ (l : List Necessity). Stack l c na la) (ap (λ (k : ℕ). mapped after k ns) e ∙ mapped-all after ns) (z .stack fits),
         )
 
-  pub turned-after : (ns : List Necessity) {c : ℕ} {oa ra la va : List ℕ} → Stack (reverse (map after ns)) c oa ra la va → Stack (necessitiesAfterPossibility t g fk ns) c oa ra la va
+  pub turned-after : (ns : List Necessity) {c : ℕ} {na la : List ℕ} → Stack (reverse (map after ns)) c na la → Stack (necessitiesAfterPossibility t g fk ns) c na la
   unfolding necessitiesAfterPossibility
   turned-after ns s = s
 

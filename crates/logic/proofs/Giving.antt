@@ -13,14 +13,14 @@ use Rattle.bits.specs.Bits.{bitOf}
 use Rattle.definition.specs.Lists.{Each, filter}
 use Rattle.definition.specs.Tree.{Node, newNode, path}
 use Rattle.definition.specs.Subtree.{Targeted}
-use Rattle.definition.specs.Modality.{Necessity, Fork, occurs, Made, giveOn}
+use Rattle.definition.specs.Modality.{Necessity, Fork, occurs, Reapplication, giveOn}
 use Rattle.tree.specs.Lay.{Held}
 use Rattle.tree.proofs.Nodes.{held-ok, held-fits, held-as}
-use Rattle.definition.proofs.Lists.{each-get}
-use Rattle.subtree.specs.Rows.{Row, Rows}
+use Rattle.definition.proofs.Basics.Lists.{each-get}
+use Rattle.subtree.specs.Items.{Item, ItemsHeld, Listing}
 use Rattle.modality.specs.Seen.{Seen}
-use Rattle.logic.specs.declared.Given.{Given}
-use Rattle.logic.specs.Gave.{Listing, Gave}
+use Rattle.subtree.specs.declared.Counts.{Counts}
+use Rattle.logic.specs.Gave.{Gave}
 use Rattle.logic.proofs.Listings.{item, listing-as, listing-both, listing-self, listing-skip}
 
 module _ (t : List Node) (fk : Option Fork) (n : Necessity) (ws : List ℕ) where
@@ -31,10 +31,10 @@ module _ (t : List Node) (fk : Option Fork) (n : Necessity) (ws : List ℕ) wher
   made leaf = map (newNode (n .spawner) (n .formula)) (here leaf)
 
   -- what the paths of the leaves that are left give
-  abbrev left : List Node → List ℕ → Made
+  abbrev left : List Node → List ℕ → Reapplication
   left more rest = giveOn t fk n ws (length (t ++ more)) rest
 
-  pub record Giving (rest : List ℕ) (goal : List Node) (rs : List Row) (items : List Targeted) (len : ℕ) (a : List ℕ) (count : ℕ) (ia : List ℕ) : Type 0 where
+  pub record Giving (rest : List ℕ) (goal : List Node) (rs : List Item) (items : List Targeted) (len : ℕ) (a : List ℕ) (count : ℕ) (ia : List ℕ) : Type 0 where
     pub more : List Node
     pub done : List Targeted
     pub held : Held (t ++ more) len a
@@ -42,14 +42,14 @@ module _ (t : List Node) (fk : Option Fork) (n : Necessity) (ws : List ℕ) wher
     pub subtrees : done ++ left more rest .subtrees ≡ items
     pub rows : len ≤ mostIdentifiers → Listing rs done count len ia
 
-  pub giving-start : (more : List Node) (ls : List ℕ) (rs : List Row) {len count : ℕ} {a ia : List ℕ} → Held (t ++ more) len a → (len ≤ mostIdentifiers → Listing rs [] count len ia) →
+  pub giving-start : (more : List Node) (ls : List ℕ) (rs : List Item) {len count : ℕ} {a ia : List ℕ} → Held (t ++ more) len a → (len ≤ mostIdentifiers → Listing rs [] count len ia) →
       Giving ls ((t ++ more) ++ left more ls .nodes) rs (left more ls .subtrees) len a count ia
   giving-start more ls rs h l = record { more = more; done = []; held = h; nodes = refl; subtrees = refl; rows = l }
 
-  module _ {goal : List Node} {rs : List Row} {items : List Targeted} {len count : ℕ} {a ia : List ℕ} where
+  module _ {goal : List Node} {rs : List Item} {items : List Targeted} {len count : ℕ} {a ia : List ℕ} where
     pub giving-next : (leaf : ℕ) (rest : List ℕ) (g : Giving (leaf ∷ rest) goal rs items len a count ia) {len′ count′ : ℕ} {b ib : List ℕ} →
         Held ((t ++ g .more) ++ made leaf) len′ b →
-        ((rs′ : List Row) → Rows rs′ count ia len → len′ ≤ mostIdentifiers → Listing rs′ (item leaf (len′ - len) len ∷ []) count′ len′ ib) →
+        ((rs′ : List Item) → ItemsHeld rs′ count ia len → len′ ≤ mostIdentifiers → Listing rs′ (item leaf (len′ - len) len ∷ []) count′ len′ ib) →
         Giving rest goal rs items len′ b count′ ib
     unfolding giveOn
     giving-next leaf rest g {len′} {count′} {b} {ib} h push =
@@ -102,7 +102,7 @@ module _ (t : List Node) (fk : Option Fork) (n : Necessity) (ws : List ℕ) wher
     pub giving-entry : (ls : List ℕ) {j k leaf x f : ℕ} {l : List ℕ} → Listed ls k l → k ≤ mostIdentifiers → j < k → leaf ≡ getD ls j 0 → n .spawner ≡ x → n .formula ≡ f →
         (g : Giving (drop j ls) goal rs items len a count ia) {len′ count′ : ℕ} {b ib : List ℕ} →
         (Held (t ++ g .more) len a → Held ((t ++ g .more) ++ map (newNode x f) (filter (occurs t fk (path t leaf)) ws)) len′ b) →
-        ((rs′ : List Row) → Rows rs′ count ia len → len′ ≤ mostIdentifiers → Listing rs′ (item leaf (len′ - len) len ∷ []) count′ len′ ib) →
+        ((rs′ : List Item) → ItemsHeld rs′ count ia len → len′ ≤ mostIdentifiers → Listing rs′ (item leaf (len′ - len) len ∷ []) count′ len′ ib) →
         Giving (drop (j + 1) ls) goal rs items len′ b count′ ib
     unfolding giving-turn
     giving-entry ls {j} {k} {leaf} {x} {f} lk small up e p q g h push =
@@ -123,14 +123,14 @@ module _ (t : List Node) (fk : Option Fork) (n : Necessity) where
   nothing-made [] next = refl
   nothing-made (leaf ∷ ls) next = nothing-made ls (next + 0)
 
-  nothing-listed : (ls : List ℕ) (next : ℕ) {rs : List Row} {count len : ℕ} {ia : List ℕ} → Listing rs [] count len ia → Listing rs (giveOn t fk n [] next ls .subtrees) count len ia
+  nothing-listed : (ls : List ℕ) (next : ℕ) {rs : List Item} {count len : ℕ} {ia : List ℕ} → Listing rs [] count len ia → Listing rs (giveOn t fk n [] next ls .subtrees) count len ia
   unfolding giveOn
   nothing-listed [] next l = l
   nothing-listed (leaf ∷ ls) next l =
       let one = listing-skip leaf l in
       listing-both (item leaf 0 next ∷ []) (giveOn t fk n [] (next + 0) ls .subtrees) one (nothing-listed ls (next + 0) (listing-self one))
 
-  pub nothing-given : (ls : List ℕ) (next : ℕ) {ms : List Node} {rs : List Row} (r : Given) {a ia : List ℕ} → Held ms (r .nodes) a → (r .nodes ≤ mostIdentifiers → Listing rs [] (r .items) (r .nodes) ia) →
+  pub nothing-given : (ls : List ℕ) (next : ℕ) {ms : List Node} {rs : List Item} (r : Counts) {a ia : List ℕ} → Held ms (r .nodes) a → (r .nodes ≤ mostIdentifiers → Listing rs [] (r .listed) (r .nodes) ia) →
       Gave ms rs (giveOn t fk n [] next ls) r a ia
   nothing-given ls next {ms} r h l =
       record { nodes = held-as (ms ++ giveOn t fk n [] next ls .nodes) (sym (append-nil ms) ∙ ap (λ (v : List Node). ms ++ v) (sym (nothing-made ls next))) h; rows = λ small. nothing-listed ls next (l small) }

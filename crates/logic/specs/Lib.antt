@@ -1,2 +1,2 @@
 pub mod Gave
-pub mod Sizes
+pub mod Applied

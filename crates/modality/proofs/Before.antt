@@ -5,7 +5,7 @@ use mathlib.Core.Bool.{Bool, true, false, _&&_}
 use mathlib.Core.List.{List, _++_}
 use native.Mathlib.Omega.{arith}
 use lib.Dec.{ltb}
-use lib.ListN.{length, List·getD-eq-default}
+use lib.ListN.{List·getD-eq-default}
 use borrow.Author.Tests.{lt-ltb, le-ltb}
 use Rattle.definition.specs.Limits.{mostIdentifiers}
 use Rattle.limits.specs.Arrays.{leafCount}
@@ -14,9 +14,9 @@ use Rattle.definition.specs.Lists.{elem}
 use Rattle.definition.specs.Records.{nobody}
 use Rattle.definition.specs.Tree.{Node, newNode, nodeAt}
 use Rattle.definition.specs.Modality.{Necessity}
-use Rattle.definition.proofs.Nodes.{node-append}
-use Rattle.definition.proofs.Treed.{placed}
-use Rattle.tree.specs.Lay.{placeCode, lay}
+use Rattle.definition.proofs.Tree.Nodes.{node-append}
+use Rattle.definition.specs.TreeShape.{placed}
+use Rattle.tree.specs.Lay.{placeCode, Lays}
 use Rattle.tree.proofs.Paths.{out-code, in-code}
 use Rattle.necessities.specs.Stored.{InRow}
 use Rattle.modality.specs.Stands.{Stands}
@@ -37,8 +37,8 @@ module _ (get : Node → ℕ) {t : List Node} {base : ℕ} {a : List ℕ} (d : S
   pub stands-out : base ≤ x → get (newNode nobody nobody nobody) ≡ get (nodeAt t x)
   stands-out h = ap get (sym (List·getD-eq-default t (newNode nobody nobody nobody) (omega (arith, d .count))))
 
-  pub stands-in : {v : ℕ} → x < base → ((ns : List Node) → length ns ≤ mostIdentifiers → a ≡ lay ns → v ≡ get (nodeAt ns x)) → v ≡ get (nodeAt t x)
-  stands-in h f = f (t ++ d .more) (d .room) (d .laid) ∙ ap get (node-append t (d .more) x (omega (arith, d .count)))
+  pub stands-in : {v : ℕ} → x < base → ((ns : List Node) → Lays ns a → v ≡ get (nodeAt ns x)) → v ≡ get (nodeAt t x)
+  stands-in h f = f (t ++ d .more) (d .lays) ∙ ap get (node-append t (d .more) x (omega (arith, d .count)))
 
 -- ---- in the tree as it stood
 module _ {t : List Node} {base : ℕ} {a : List ℕ} (d : Stands t base a) (x : ℕ) where
@@ -46,7 +46,7 @@ module _ {t : List Node} {base : ℕ} {a : List ℕ} (d : Stands t base a) (x : 
   unfolding placed
   placed-out h = ap (λ (n : Node). placed (n .place)) (sym (List·getD-eq-default t (newNode nobody nobody nobody) (omega (arith, d .count))))
 
-  module _ (low : x < base) {v : ℕ} (e : (ns : List Node) → length ns ≤ mostIdentifiers → a ≡ lay ns → v ≡ placeCode (nodeAt ns x .place)) where
+  module _ (low : x < base) {v : ℕ} (e : (ns : List Node) → Lays ns a → v ≡ placeCode (nodeAt ns x .place)) where
     code : v ≡ placeCode (nodeAt t x .place)
     code = stands-in (λ n. placeCode (n .place)) d x low e
 

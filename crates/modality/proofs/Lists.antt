@@ -4,16 +4,14 @@ use mathlib.Core.Path.{_≡_, refl, sym, ap, _∙_}
 use mathlib.Core.Bool.{Bool, true, false, cond, _&&_, _||_}
 use mathlib.Core.Logic.{⊎-elim}
 use mathlib.Core.List.{List, [], _∷_, _++_}
-use native.Mathlib.Omega.{arith}
 use native.Mathlib.Numerals.{add-one}
 use lib.Dec.{eqb}
-use lib.ListN.{length, getD, take, drop, drop-of-length-le}
-use lib.Seq.{take-suc, take-all, drop-cons}
+use lib.ListN.{length, getD, take}
+use lib.Seq.{take-suc, take-all}
 use borrow.Author.Tests.{eqb-true, eqb-false, eq-eqb, ne-eqb}
-use Rattle.definition.specs.Lists.{any, elem, filter, below}
+use Rattle.definition.specs.Lists.{any, elem, filter}
 use Rattle.definition.specs.Modality.{Necessity, runsThrough}
-use Rattle.definition.proofs.Lists.{either, from-get}
-use Rattle.definition.proofs.Lists.{filter-append}
+use Rattle.definition.proofs.Basics.Lists.{either, filter-append}
 
 pub eqb-sym : (x y : ℕ) → eqb x y ≡ eqb y x
 eqb-sym x y = ⊎-elim (λ t. t ∙ sym (eq-eqb y x (sym (eqb-true x y t)))) (λ t. t ∙ sym (ne-eqb y x (λ e. eqb-false x y t (sym e)))) (either (eqb x y))
@@ -48,21 +46,6 @@ runs-by-path n xs =
     any-ext (λ y. elem y (n .leaves)) (λ y. any (λ l. eqb l y) (n .leaves)) (λ y. any-ext (eqb y) (λ l. eqb l y) (eqb-sym y) (n .leaves)) xs
     ∙ sym (any-swap eqb (n .leaves) xs)
 
--- ---- a loop through a list that looks for an element which passes the test
-module _ (p : ℕ → Bool) (xs : List ℕ) (j : ℕ) where
-  pub seek-end : length xs ≤ j → any p (drop j xs) ≡ false
-  seek-end h = ap (any p) (drop-of-length-le xs h)
-
-  module _ (h : j < length xs) {x : ℕ} (e : x ≡ getD xs j 0) {b : Bool} (q : b ≡ p x) where
-    seek-step : any p (drop j xs) ≡ (b || any p (drop (j + 1) xs))
-    seek-step = rw (drop-cons xs j 0 h, add-one, q, e) refl
-
-    pub seek-hit : b ≡ true → any p (drop j xs) ≡ true
-    seek-hit s = seek-step ∙ rw s refl
-
-    pub seek-miss : b ≡ false → any p (drop j xs) ≡ any p (drop (j + 1) xs)
-    seek-miss s = seek-step ∙ rw s refl
-
 -- ---- a loop through a list that keeps the elements which pass the test
 pub kept-next : (p : ℕ → Bool) (xs : List ℕ) (j x : ℕ) {b : Bool} → j < length xs → x ≡ getD xs j 0 → b ≡ p x
     → filter p (take (j + 1) xs) ≡ filter p (take j xs) ++ cond b (x ∷ []) []
@@ -84,9 +67,6 @@ filter-both p q (x ∷ xs) = go (q x) (p x) refl refl (filter-both p q xs)
     go true true e f r = rw (e, f) (ap (λ (l : List ℕ). x ∷ l) r)
     go true false e f r = rw (e, f) r
     go false b e f r = rw e r
-
-pub below-get : (n k : ℕ) → k < n → k ≡ getD (below n) k 0
-below-get n k h = omega arith ∙ sym (from-get n 0 k h)
 
 -- ---- tests one after the other: the first answers, or the second does
 module _ {x a : Bool} (e : x ≡ a) where

@@ -9,13 +9,15 @@ use Rattle.definition.specs.Limits.{mostIdentifiers}
 use Rattle.arrays.specs.Listed.{Listed}
 use Rattle.definition.specs.Lists.{elem, filter}
 use Rattle.definition.specs.Records.{nobody}
-use Rattle.definition.specs.Tree.{Node, Place, Left, Middle, Right, nodeAt, isLeaf, only, leavesBelow, leaves, path}
+use Rattle.definition.specs.Tree.{Node, Place, Left, Middle, Right, nodeAt, isLeaf, only, leavesBelow, leaves, path, childAt}
 use Rattle.definition.specs.Modality.{Necessity, Fork, isReapplied}
-use Rattle.definition.proofs.Lists.{alike}
-use Rattle.definition.proofs.Nodes.{node-append}
-use Rattle.definition.proofs.Treed.{placed, childAt, spots, In, Treed, in-range, leaves-nobody}
-use Rattle.definition.proofs.Below.{through-is, through-out}
-use Rattle.definition.proofs.Spawned.{Spawned, reapplied-is, reapplied-out, reapplied-loose}
+use Rattle.definition.proofs.Basics.Lists.{alike}
+use Rattle.definition.proofs.Tree.Nodes.{node-append}
+use Rattle.definition.specs.TreeShape.{placed, spots, In, Treed}
+use Rattle.definition.proofs.Tree.Shape.{in-range, leaves-nobody}
+use Rattle.definition.proofs.Engine.BelowTarget.{through-is, through-out}
+use Rattle.definition.specs.Shortcuts.{ThroughSpawner}
+use Rattle.definition.proofs.Engine.Reapplied.{reapplied-is, reapplied-out, reapplied-loose}
 use Rattle.tree.proofs.Paths.{listed-as, nobody-leaf}
 use Rattle.modality.specs.Stands.{Stands}
 
@@ -42,13 +44,13 @@ module _ {t : List Node} {base : ℕ} {a : List ℕ} (r : Treed t) (d : Stands t
   pub through-walked : b ≡ true → {n : ℕ} {o : List ℕ} → Listed (leavesBelow base (t ++ d .more) x) n o → Listed (filter (λ leaf. elem x (path t leaf)) (leaves t)) n o
   through-walked h =
       let i : In (spots t) x = sym e ∙ h in
-      listed-as (filter (λ leaf. elem x (path t leaf)) (leaves t)) (ap (λ (k : ℕ). leavesBelow k (t ++ d .more) x) (sym (d .count)) ∙ same-below t r (d .more) (d .room) (length t) x i ∙ sym (through-is t r x i))
+      listed-as (filter (λ leaf. elem x (path t leaf)) (leaves t)) (ap (λ (k : ℕ). leavesBelow k (t ++ d .more) x) (sym (d .count)) ∙ same-below t r (d .more) (d .lays .fits) (length t) x i ∙ sym (through-is t r x i))
 
   pub through-none : b ≡ false → {n : ℕ} {o : List ℕ} → Listed [] n o → Listed (filter (λ leaf. elem x (path t leaf)) (leaves t)) n o
   through-none h = listed-as (filter (λ leaf. elem x (path t leaf)) (leaves t)) (sym (through-out t r x (sym e ∙ h)))
 
 -- a necessity and a fork, by their nodes
-module _ (t : List Node) (r : Treed t) (k : Fork) (n : Necessity) (h : Spawned t n) {x y : ℕ} (e : k .node ≡ x) (f : n .spawner ≡ y) {a : Bool} (p : a ≡ placed (nodeAt t x .place)) where
+module _ (t : List Node) (r : Treed t) (k : Fork) (n : Necessity) (h : ThroughSpawner t n) {x y : ℕ} (e : k .node ≡ x) (f : n .spawner ≡ y) {a : Bool} (p : a ≡ placed (nodeAt t x .place)) where
   pub fork-loose : a ≡ false → false ≡ isReapplied t k n
   fork-loose q = reapplied-loose t r k n h (rw e (sym p ∙ q))
 

@@ -20,8 +20,8 @@ use Rattle.definition.specs.Lists.{Each, any, elem}
 use Rattle.definition.specs.Records.{isNobody}
 use Rattle.definition.specs.Tree.{Node, nodeAt, upward, path}
 use Rattle.definition.specs.Modality.{Fork, forkedOn, occurs}
-use Rattle.definition.proofs.Lists.{or-left, or-right, either, alike, each-get, each-map, each-append}
-use Rattle.tree.proofs.Paths.{up-zero, up-nobody, up-node, climb-start}
+use Rattle.definition.proofs.Basics.Lists.{or-left, or-right, either, alike, each-get, each-map, each-append}
+use Rattle.tree.proofs.Paths.{climb-start, climb-next}
 use Rattle.modality.specs.declared.Forking.{Forking}
 use Rattle.modality.specs.Forking.{forkOf}
 use Rattle.modality.specs.Seen.{forkedAt, brings, Seen}
@@ -32,9 +32,6 @@ or-turned true true c = refl
 or-turned true false c = refl
 or-turned false true c = refl
 or-turned false false c = refl
-
-or-later : (a b c : Bool) → ((a || b) || c) ≡ (b || (a || c))
-or-later a b c = sym (or-turned b a c)
 
 -- ---- what the nodes of a path bring
 any-and : (b : Bool) (p : ℕ → Bool) (xs : List ℕ) → any (λ x. b && p x) xs ≡ (b && any p xs)
@@ -90,26 +87,18 @@ module _ (t : List Node) (f : Forking) (x : ℕ) {b : Bool} (at : b ≡ (f .on &
         ∙ or-turned (eqb (f .world .0) v) (eqb (nodeAt t x .world) v) (bitOf word v)
         ∙ ap (λ (c : Bool). (eqb (nodeAt t x .world) v || c) || bitOf word v) new
 
--- ---- a loop up a path that gathers the worlds: those of the word, and those of what is left of the path
-pub gather-start : (t : List Node) (k : Option Fork) (len x v : ℕ) → length t ≡ len → (bitOf 0 v || any (brings t k v) (upward (len - 0) t x)) ≡ occurs t k (path t x) v
-gather-start t k len x v e = rw (no-bit v) (climb-start t (brings t k v) len x e ∙ brings-all t k v (path t x))
+-- ---- a climb that gathers the worlds: those that what is left of the path brings, and those of the word
+abbrev pub gathered : List Node → Option Fork → ℕ → ℕ → List ℕ → Bool
+gathered t k v word l = any (brings t k v) l || bitOf word v
 
-module _ (t : List Node) (p : ℕ → Bool) {goal : Bool} (len j cur : ℕ) (word : Bool) (inv : (word || any p (upward (len - j) t cur)) ≡ goal) where
-  pub gather-none : {b : Bool} → b ≡ isNobody cur → b ≡ true → word ≡ goal
-  gather-none e h = sym (or-false word) ∙ ap (λ (l : List ℕ). word || any p l) (sym (up-nobody t (len - j) cur (sym e ∙ h))) ∙ inv
+pub gather-start : (t : List Node) (k : Option Fork) (len x v : ℕ) → length t ≡ len → gathered t k v 0 (upward (len - 0) t x) ≡ occurs t k (path t x) v
+gather-start t k len x v e = rw (no-bit v) (or-false (any (brings t k v) (upward (len - 0) t x)) ∙ climb-start t (any (brings t k v)) len x e ∙ brings-all t k v (path t x))
 
-  pub gather-end : len ≤ j → word ≡ goal
-  gather-end h =
-      let z : len - j ≡ 0 = omega (arith, h) in
-      sym (or-false word) ∙ ap (λ (l : List ℕ). word || any p l) (sym (ap (λ (d : ℕ). upward d t cur) z ∙ up-zero t cur)) ∙ inv
-
-  pub gather-next : {b : Bool} → j < len → b ≡ isNobody cur → b ≡ false → {more : Bool} (up : ℕ) → more ≡ (p cur || word) → up ≡ nodeAt t cur .parent → (more || any p (upward (len - (j + 1)) t up)) ≡ goal
-  gather-next h e node {more} up q u =
-      let z : len - j ≡ suc (len - (j + 1)) = omega (arith, h) in
-      let rest = any p (upward (len - (j + 1)) t (nodeAt t cur .parent)) in
-      ap (λ (x : ℕ). more || any p (upward (len - (j + 1)) t x)) u
-      ∙ ap (λ (c : Bool). c || rest) q ∙ or-later (p cur) word rest
-      ∙ ap (λ (l : List ℕ). word || any p l) (sym (ap (λ (d : ℕ). upward d t cur) z ∙ up-node t (len - (j + 1)) cur (sym e ∙ node))) ∙ inv
+pub gather-next : (t : List Node) (k : Option Fork) {goal b : Bool} (v len j cur word : ℕ) → gathered t k v word (upward (len - j) t cur) ≡ goal → j < len → b ≡ isNobody cur → b ≡ false →
+    (up more : ℕ) → up ≡ nodeAt t cur .parent → bitOf more v ≡ (brings t k v cur || bitOf word v) → gathered t k v more (upward (len - (j + 1)) t up) ≡ goal
+gather-next t k v len j cur word inv h e node up more u q =
+    let rest = any (brings t k v) (upward (len - (j + 1)) t up) in
+    ap (λ (c : Bool). rest || c) q ∙ or-turned rest (brings t k v cur) (bitOf word v) ∙ climb-next t (gathered t k v word) len j cur inv h e node up u
 
 -- ---- a loop that stores them, leaf by leaf
 elem-not : (x : ℕ) (xs : List ℕ) → elem x xs ≡ false → (j : ℕ) → j < length xs → x ≢ getD xs j 0

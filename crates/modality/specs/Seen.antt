@@ -20,7 +20,7 @@ forkedAt (some k) v x = eqb v (k .world) && eqb (k .node) x
 unfoldable pub brings : List Node → Option Fork → ℕ → ℕ → Bool
 brings t k v x = eqb (nodeAt t x .world) v || forkedAt k v x
 
--- the table has, at the leaf, the worlds that occur on its path
-pub record Seen (t : List Node) (k : Option Fork) (table : List ℕ) (leaf : ℕ) : Type 0 where
+-- the array has, at the leaf, the worlds that occur on its path
+pub record Seen (t : List Node) (k : Option Fork) (seen : List ℕ) (leaf : ℕ) : Type 0 where
   pub low : leaf < mostIdentifiers
-  pub same : (v : ℕ) → v < 32 → bitOf (getD table leaf 0) v ≡ occurs t k (path t leaf) v
+  pub same : (v : ℕ) → v < 32 → bitOf (getD seen leaf 0) v ≡ occurs t k (path t leaf) v

@@ -1,9 +1,12 @@
 // Necessities: what is stored of them, on which paths they are given again, and what they give there.
-// Of a call whose arrays lay out nothing of the kind that its contract names: it ends and stays in bounds; its outcome is free.
 use arrays::nth;
 use arrays::push_if;
 use bits::bit;
+use bits::first_world;
+use bits::intersection;
+use bits::other_worlds;
 use bits::with_bit;
+use bits::with_bit_if;
 use formula::FormulaNumber;
 use graph::PossibleWorld;
 use graph::vertices::vertex_at;
@@ -16,8 +19,9 @@ use limits::Numbers;
 use limits::Worlds;
 use tree::Chain;
 use tree::IssuedChain;
+use tree::PLACE_UNPLACED;
 use tree::ProofTreeNodeID;
-use tree::extend_if;
+use tree::extend;
 use tree::leaves_below;
 use tree::parent_of;
 use tree::place_of;
@@ -31,12 +35,13 @@ ghost use lib.ListN.{length, getD, set};
 ghost use Rattle.definition.specs.Limits.{mostIdentifiers};
 ghost use Rattle.arrays.specs.Listed.{Listed};
 ghost use Rattle.bits.specs.Bits.{bitOf};
+ghost use Rattle.bits.specs.Worlds.{worldsIn};
 ghost use Rattle.definition.specs.Lists.{Each, elem, filter};
 ghost use Rattle.definition.specs.Graph.{Graph, edge};
 ghost use Rattle.definition.specs.Tree.{Node, nodeAt, newNode, path, leaves};
 ghost use Rattle.definition.specs.Modality.{Necessity, Fork, runsThrough, occurs, unvisited, isReapplied};
-ghost use Rattle.definition.proofs.Treed.{placed, Treed};
-ghost use Rattle.definition.proofs.Spawned.{Spawned};
+ghost use Rattle.definition.specs.TreeShape.{placed, Treed};
+ghost use Rattle.definition.specs.Shortcuts.{ThroughSpawner};
 ghost use Rattle.graph.specs.Drawn.{Drawn};
 ghost use Rattle.tree.specs.Chain.{DrawnFrom};
 ghost use Rattle.tree.specs.Lay.{Held};
@@ -53,8 +58,8 @@ pub struct Forking {
 }
 
 // Row k of a table of bits has y.
-fn row_contains(words: &Leaves, k: usize, y: ProofTreeNodeID) -> bool
-    ensures { λ r. ⌜ ((l : List ℕ) → InRow k l (now (words .entry)) → r ≡ elem (y .0) l) ⌝ }
+fn row_contains(leaves: &Leaves, k: usize, y: ProofTreeNodeID) -> bool
+    ensures { λ r. ⌜ ((l : List ℕ) → InRow k l (now (leaves .entry)) → r ≡ elem (y .0) l) ⌝ }
 {
     let at = y.0 as usize;
     if MOST_IDENTIFIERS <= k {
@@ -63,7 +68,7 @@ fn row_contains(words: &Leaves, k: usize, y: ProofTreeNodeID) -> bool
     if MOST_IDENTIFIERS <= at {
         return false;
     }
-    bits::contains(words, k * MOST_IDENTIFIERS + at)
+    bits::contains(leaves, k * MOST_IDENTIFIERS + at)
 }
 
 // The word has the bit of y.
@@ -77,33 +82,33 @@ fn word_contains(word: u32, y: PossibleWorld) -> bool
 }
 
 // The parent of x in the tree as it stood, when it had `base` nodes.
-fn parent_before(tree: &Nodes, base: usize, x: ProofTreeNodeID) -> ProofTreeNodeID
-    ensures { λ r. ⌜ ((t : List Node) → Stands t base (now (tree .entry)) → r .0 ≡ nodeAt t (x .0) .parent) ⌝ }
+fn parent_before(nodes: &Nodes, base: usize, x: ProofTreeNodeID) -> ProofTreeNodeID
+    ensures { λ r. ⌜ ((t : List Node) → Stands t base (now (nodes .entry)) → r .0 ≡ nodeAt t (x .0) .parent) ⌝ }
 {
     if base <= x.0 as usize {
         return ProofTreeNodeID::NONE;
     }
-    parent_of(tree, x)
+    parent_of(nodes, x)
 }
 
-fn world_before(tree: &Nodes, base: usize, x: ProofTreeNodeID) -> PossibleWorld
-    ensures { λ r. ⌜ ((t : List Node) → Stands t base (now (tree .entry)) → r .0 ≡ nodeAt t (x .0) .world) ⌝ }
+fn world_before(nodes: &Nodes, base: usize, x: ProofTreeNodeID) -> PossibleWorld
+    ensures { λ r. ⌜ ((t : List Node) → Stands t base (now (nodes .entry)) → r .0 ≡ nodeAt t (x .0) .world) ⌝ }
 {
     if base <= x.0 as usize {
-        return PossibleWorld(65535);
+        return PossibleWorld::NONE;
     }
-    world_of(tree, x)
+    world_of(nodes, x)
 }
 
 // The path runs through a leaf stored in row k.
 fn path_runs_through(
-    tree: &Nodes,
+    nodes: &Nodes,
     base: usize,
-    leafs: &Leaves,
+    leaves: &Leaves,
     k: usize,
     leaf: ProofTreeNodeID,
 ) -> bool
-    ensures { λ r. ⌜ ((t : List Node) (n : Necessity) → Stands t base (now (tree .entry)) → InRow k (n .leaves) (now (leafs .entry)) → r ≡ runsThrough n (path t (leaf .0))) ⌝ }
+    ensures { λ r. ⌜ ((t : List Node) (n : Necessity) → Stands t base (now (nodes .entry)) → InRow k (n .leaves) (now (leaves .entry)) → r ≡ runsThrough n (path t (leaf .0))) ⌝ }
 {
     let mut cur = leaf;
     let mut j: usize = 0;
@@ -111,18 +116,18 @@ fn path_runs_through(
         if cur.is_none() {
             return false;
         }
-        if row_contains(leafs, k, cur) {
+        if row_contains(leaves, k, cur) {
             return true;
         }
-        cur = parent_before(tree, base, cur);
+        cur = parent_before(nodes, base, cur);
         j += 1;
     }
     false
 }
 
 // The path goes through node x.
-fn path_goes_through(tree: &Nodes, base: usize, x: ProofTreeNodeID, leaf: ProofTreeNodeID) -> bool
-    ensures { λ r. ⌜ ((t : List Node) → Stands t base (now (tree .entry)) → r ≡ elem (x .0) (path t (leaf .0))) ⌝ }
+fn path_goes_through(nodes: &Nodes, base: usize, x: ProofTreeNodeID, leaf: ProofTreeNodeID) -> bool
+    ensures { λ r. ⌜ ((t : List Node) → Stands t base (now (nodes .entry)) → r ≡ elem (x .0) (path t (leaf .0))) ⌝ }
 {
     let mut cur = leaf;
     let mut j: usize = 0;
@@ -133,7 +138,7 @@ fn path_goes_through(tree: &Nodes, base: usize, x: ProofTreeNodeID, leaf: ProofT
         if x.is(cur) {
             return true;
         }
-        cur = parent_before(tree, base, cur);
+        cur = parent_before(nodes, base, cur);
         j += 1;
     }
     false
@@ -141,23 +146,23 @@ fn path_goes_through(tree: &Nodes, base: usize, x: ProofTreeNodeID, leaf: ProofT
 
 // Of the listed leaves, those whose paths run through a leaf stored in row k.
 pub fn leaves_of(
-    tree: &Nodes,
+    nodes: &Nodes,
     base: usize,
-    leafs: &Leaves,
+    leaves: &Leaves,
     k: usize,
     list: &Numbers,
     m: usize,
     out: &mut Numbers,
     c: usize,
 ) -> usize
-    ensures { λ r. ⌜ ((t : List Node) (n : Necessity) (ls l : List ℕ) → Stands t base (now (tree .entry)) → InRow k (n .leaves) (now (leafs .entry)) → Listed ls m (now (list .entry)) → m ≤ mostIdentifiers
+    ensures { λ r. ⌜ ((t : List Node) (n : Necessity) (ls l : List ℕ) → Stands t base (now (nodes .entry)) → InRow k (n .leaves) (now (leaves .entry)) → Listed ls m (now (list .entry)) → m ≤ mostIdentifiers
         → Listed l c (now (out .entry)) → Listed (l ++ filter (λ leaf. runsThrough n (path t leaf)) ls) r (now (out .exit))) ⌝ }
 {
     let mut n = c;
     let mut j: usize = 0;
     while j < m {
         let leaf = nth(list, j);
-        let runs = path_runs_through(tree, base, leafs, k, ProofTreeNodeID(leaf));
+        let runs = path_runs_through(nodes, base, leaves, k, ProofTreeNodeID(leaf));
         n = push_if(out, n, leaf, runs);
         j += 1;
     }
@@ -165,43 +170,43 @@ pub fn leaves_of(
 }
 
 // Node x is in the tree as it stood.
-fn is_placed_before(tree: &Nodes, base: usize, x: ProofTreeNodeID) -> bool
-    ensures { λ r. ⌜ ((t : List Node) → Stands t base (now (tree .entry)) → r ≡ placed (nodeAt t (x .0) .place)) ⌝ }
+fn is_placed_before(nodes: &Nodes, base: usize, x: ProofTreeNodeID) -> bool
+    ensures { λ r. ⌜ ((t : List Node) → Stands t base (now (nodes .entry)) → r ≡ placed (nodeAt t (x .0) .place)) ⌝ }
 {
     if base <= x.0 as usize {
         return false;
     }
-    if place_of(tree, x) == 65535 {
+    if place_of(nodes, x) == PLACE_UNPLACED {
         return false;
     }
     true
 }
 
 // The leaves whose paths go through node x: those at and below it, if it is in the tree.
-pub fn leaves_through(tree: &Nodes, base: usize, x: ProofTreeNodeID, out: &mut Numbers) -> usize
-    ensures { λ r. ⌜ ((t : List Node) → Treed t → Stands t base (now (tree .entry)) → Listed [] 0 (now (out .entry)) → Listed (filter (λ leaf. elem (x .0) (path t leaf)) (leaves t)) r (now (out .exit))) ⌝ }
+pub fn leaves_through(nodes: &Nodes, base: usize, x: ProofTreeNodeID, out: &mut Numbers) -> usize
+    ensures { λ r. ⌜ ((t : List Node) → Treed t → Stands t base (now (nodes .entry)) → Listed [] 0 (now (out .entry)) → Listed (filter (λ leaf. elem (x .0) (path t leaf)) (leaves t)) r (now (out .exit))) ⌝ }
 {
-    if is_placed_before(tree, base, x) {
-        return leaves_below(tree, x, base, out, 0);
+    if is_placed_before(nodes, base, x) {
+        return leaves_below(nodes, x, base, out, 0);
     }
     0
 }
 
 // A path of the necessity goes through the forking node: both are in the tree, and one stands above the other.
 pub fn is_reapplied(
-    tree: &Nodes,
+    nodes: &Nodes,
     base: usize,
     node: ProofTreeNodeID,
     spawner: ProofTreeNodeID,
 ) -> bool
-    ensures { λ r. ⌜ ((t : List Node) (k : Fork) (n : Necessity) → Treed t → Spawned t n → k .node ≡ node .0 → n .spawner ≡ spawner .0 → Stands t base (now (tree .entry)) → r ≡ isReapplied t k n) ⌝ }
+    ensures { λ r. ⌜ ((t : List Node) (k : Fork) (n : Necessity) → Treed t → ThroughSpawner t n → k .node ≡ node .0 → n .spawner ≡ spawner .0 → Stands t base (now (nodes .entry)) → r ≡ isReapplied t k n) ⌝ }
 {
-    if is_placed_before(tree, base, node) {
-        if is_placed_before(tree, base, spawner) {
-            if path_goes_through(tree, base, spawner, node) {
+    if is_placed_before(nodes, base, node) {
+        if is_placed_before(nodes, base, spawner) {
+            if path_goes_through(nodes, base, spawner, node) {
                 return true;
             }
-            return path_goes_through(tree, base, node, spawner);
+            return path_goes_through(nodes, base, node, spawner);
         }
     }
     false
@@ -226,10 +231,10 @@ fn forks_at(forking: Forking, x: ProofTreeNodeID) -> bool
 }
 
 // The word with the worlds that node x brings to its paths: its own, and the new world if it is the forking node.
-fn with_worlds(tree: &Nodes, base: usize, forking: Forking, word: u32, x: ProofTreeNodeID) -> u32
-    ensures { λ r. ⌜ ((t : List Node) → Stands t base (now (tree .entry)) → (v : ℕ) → v < 32 → bitOf r v ≡ (brings t (forkOf forking) v (x .0) || bitOf word v)) ⌝ }
+fn with_worlds(nodes: &Nodes, base: usize, forking: Forking, word: u32, x: ProofTreeNodeID) -> u32
+    ensures { λ r. ⌜ ((t : List Node) → Stands t base (now (nodes .entry)) → (v : ℕ) → v < 32 → bitOf r v ≡ (brings t (forkOf forking) v (x .0) || bitOf word v)) ⌝ }
 {
-    let here = with_world(word, world_before(tree, base, x));
+    let here = with_world(word, world_before(nodes, base, x));
     if forks_at(forking, x) {
         let world = forking.world;
         return with_world(here, world);
@@ -238,8 +243,8 @@ fn with_worlds(tree: &Nodes, base: usize, forking: Forking, word: u32, x: ProofT
 }
 
 // The worlds that occur on the path of a leaf; the new world of a fork does on the paths through the forking node.
-fn worlds_on(tree: &Nodes, base: usize, forking: Forking, leaf: ProofTreeNodeID) -> u32
-    ensures { λ r. ⌜ ((t : List Node) → Stands t base (now (tree .entry)) → (v : ℕ) → v < 32 → bitOf r v ≡ occurs t (forkOf forking) (path t (leaf .0)) v) ⌝ }
+fn worlds_on(nodes: &Nodes, base: usize, forking: Forking, leaf: ProofTreeNodeID) -> u32
+    ensures { λ r. ⌜ ((t : List Node) → Stands t base (now (nodes .entry)) → (v : ℕ) → v < 32 → bitOf r v ≡ occurs t (forkOf forking) (path t (leaf .0)) v) ⌝ }
 {
     let mut word: u32 = 0;
     let mut cur = leaf;
@@ -248,8 +253,8 @@ fn worlds_on(tree: &Nodes, base: usize, forking: Forking, leaf: ProofTreeNodeID)
         if cur.is_none() {
             return word;
         }
-        word = with_worlds(tree, base, forking, word, cur);
-        cur = parent_before(tree, base, cur);
+        word = with_worlds(nodes, base, forking, word, cur);
+        cur = parent_before(nodes, base, cur);
         j += 1;
     }
     word
@@ -268,20 +273,20 @@ fn put_word(seen: &mut Worlds, x: ProofTreeNodeID, word: u32)
 
 // Stores the worlds that occur on the paths of the listed leaves, each at its leaf. The other entries stay.
 pub fn worlds_on_paths(
-    tree: &Nodes,
+    nodes: &Nodes,
     base: usize,
     forking: Forking,
     on: &Numbers,
     m: usize,
     seen: &mut Worlds,
 )
-    ensures { λ r. ⌜ ((t : List Node) (ls : List ℕ) → Stands t base (now (tree .entry)) → Listed ls m (now (on .entry)) → m ≤ mostIdentifiers → Each (λ l. l < mostIdentifiers) ls → length (now (seen .entry)) ≡ mostIdentifiers
+    ensures { λ r. ⌜ ((t : List Node) (ls : List ℕ) → Stands t base (now (nodes .entry)) → Listed ls m (now (on .entry)) → m ≤ mostIdentifiers → Each (λ l. l < mostIdentifiers) ls → length (now (seen .entry)) ≡ mostIdentifiers
         → Each (Seen t (forkOf forking) (now (seen .exit))) ls)
         × ((ls : List ℕ) → Listed ls m (now (on .entry)) → m ≤ mostIdentifiers → (x : ℕ) → elem x ls ≡ false → getD (now (seen .exit)) x 0 ≡ getD (now (seen .entry)) x 0) ⌝ }
 {
     for j in 0..m {
         let leaf = ProofTreeNodeID(nth(on, j));
-        let word = worlds_on(tree, base, forking, leaf);
+        let word = worlds_on(nodes, base, forking, leaf);
         put_word(seen, leaf, word);
     }
 }
@@ -293,58 +298,49 @@ fn is_unvisited(edges: &Edges, visited: u32, u: PossibleWorld, v: PossibleWorld)
     graph::contains(edges, u, v) && !word_contains(visited, v)
 }
 
-// The worlds that u reaches and that are not visited, rising.
-pub fn unvisited(
-    edges: &Edges,
-    worlds: usize,
-    visited: u32,
-    u: PossibleWorld,
-    out: &mut Numbers,
-    c: usize,
-) -> usize
-    ensures { λ r. ⌜ ((g : Graph) (n : Necessity) (l : List ℕ) → n .world ≡ u .0 → Drawn g worlds (now (edges .entry)) → InWord (n .visited) visited → Listed l c (now (out .entry)) → Listed (l ++ unvisited g n) r (now (out .exit))) ⌝ }
+// The worlds that u reaches and that are not visited, one bit each.
+pub fn unvisited(edges: &Edges, worlds: usize, visited: u32, u: PossibleWorld) -> u32
+    ensures { λ r. ⌜ ((g : Graph) (n : Necessity) → n .world ≡ u .0 → Drawn g worlds (now (edges .entry)) → InWord (n .visited) visited → worldsIn r ≡ unvisited g n) ⌝ }
 {
     let from = u.0 as usize;
     if GRAPH_WIDTH < worlds {
-        return c;
+        return 0;
     }
     if worlds <= from {
-        return c;
+        return 0;
     }
-    let mut n = c;
+    let mut word: u32 = 0;
     let mut v: usize = 0;
     while v < worlds {
         let step = vertex_at(from * GRAPH_WIDTH + v);
         let gives = is_unvisited(edges, visited, step.from, step.to);
-        n = push_if(out, n, step.to.0, gives);
+        word = with_bit_if(word, step.to.0 as usize, gives);
         v += 1;
     }
-    n
+    word
 }
 
-// On one path: a node for each of the worlds that is among those that occur there, each below the last one.
+// On one path: a node for each of the worlds that is among those that occur there, rising, each below the last one.
 pub fn give_on_leaf(
-    tree: &mut Nodes,
+    nodes: &mut Nodes,
     len: usize,
     spawner: ProofTreeNodeID,
     formula: FormulaNumber,
     here: u32,
-    worlds: &Numbers,
-    m: usize,
+    worlds: u32,
 ) -> IssuedChain
-    ensures { λ r. ⌜ DrawnFrom len r × ((ns : List Node) (p : ℕ → Bool) (ws : List ℕ) → Listed ws m (now (worlds .entry)) → m ≤ mostIdentifiers → Each (λ v. v < 32) ws → ((v : ℕ) → v < 32 → bitOf here v ≡ p v)
-        → Held ns len (now (tree .entry)) → Held (ns ++ map (newNode (spawner .0) (formula .0)) (filter p ws)) (r .len) (now (tree .exit))) ⌝ }
+    ensures { λ r. ⌜ DrawnFrom len r × ((ns : List Node) (p : ℕ → Bool) → ((v : ℕ) → v < 32 → bitOf here v ≡ p v)
+        → Held ns len (now (nodes .entry)) → Held (ns ++ map (newNode (spawner .0) (formula .0)) (filter p (worldsIn worlds))) (r .len) (now (nodes .exit))) ⌝ }
 {
     let mut given = IssuedChain {
         chain: Chain::EMPTY,
         len,
     };
-    let mut j: usize = 0;
-    while j < m {
-        let v = nth(worlds, j);
-        let occurs = bit(here, v as usize);
-        given = extend_if(tree, given, spawner, formula, PossibleWorld(v), occurs);
-        j += 1;
+    let mut rest = intersection(worlds, here);
+    while rest != 0 {
+        let v = PossibleWorld(first_world(rest));
+        given = extend(nodes, given, spawner, formula, v);
+        rest = other_worlds(rest);
     }
     given
 }

@@ -16,9 +16,9 @@ use Rattle.arrays.specs.Listed.{Listed}
 use Rattle.arrays.proofs.Listed.{listed-count}
 use Rattle.bits.specs.Bits.{bitAt, Bits}
 use Rattle.definition.specs.Lists.{Each, elem}
-use Rattle.definition.proofs.Lists.{each-get}
+use Rattle.definition.proofs.Basics.Lists.{each-get}
 use Rattle.necessities.specs.Stored.{InRow}
-use Rattle.necessities.specs.Change.{Kept, Added}
+use Rattle.necessities.specs.Change.{OtherRowsKept, Added}
 
 pub elem-append : (y : ℕ) (l m : List ℕ) → elem y (l ++ m) ≡ (elem y l || elem y m)
 elem-append y [] m = refl
@@ -57,10 +57,10 @@ module _ {k : ℕ} {l a : List ℕ} (r : InRow k l a) where
   row-kept b h e = in-row k l b (r .row) h (λ y q. e y q ∙ row-low y q) row-high
 
 -- ---- rows after changes
-pub kept-same : (k : ℕ) (a : List ℕ) → Kept k a a
+pub kept-same : (k : ℕ) (a : List ℕ) → OtherRowsKept k a a
 kept-same k a = record { long = λ h. h; others = λ j l e r. r }
 
-pub kept-then : {k : ℕ} {a b c : List ℕ} → Kept k a b → Kept k b c → Kept k a c
+pub kept-then : {k : ℕ} {a b c : List ℕ} → OtherRowsKept k a b → OtherRowsKept k b c → OtherRowsKept k a c
 kept-then p q = record { long = λ h. q .long (p .long h); others = λ j l e r. q .others j l e (p .others j l e r) }
 
 pub added-none : (k : ℕ) (a : List ℕ) → Added k [] a a
@@ -79,7 +79,7 @@ module _ (k x : ℕ) (a b : List ℕ) (inside : k < mostIdentifiers) (small : x 
   inserted : length a ≡ leafWords → (j y : ℕ) → j < mostIdentifiers → y < mostIdentifiers → bitAt b (j * mostIdentifiers + y) ≡ (eqb (j * mostIdentifiers + y) (k * mostIdentifiers + x) || bitAt a (j * mostIdentifiers + y))
   inserted h j y r q = insert (bitAt a) (bits-of a h) .same (j * mostIdentifiers + y) (omega arith)
 
-  insert-kept : Kept k a b
+  insert-kept : OtherRowsKept k a b
   insert-kept =
       record {
         long = λ h. insert (bitAt a) (bits-of a h) .long;
@@ -118,7 +118,7 @@ module _ (k : ℕ) (a b : List ℕ) (clear : (p : ℕ → Bool) → Bits p a →
   cleared : length a ≡ leafWords → (j y : ℕ) → j < mostIdentifiers → y < mostIdentifiers → bitAt b (j * mostIdentifiers + y) ≡ (not (eqb ((j * mostIdentifiers + y) / mostIdentifiers) k) && bitAt a (j * mostIdentifiers + y))
   cleared h j y r q = clear (bitAt a) (bits-of a h) .same (j * mostIdentifiers + y) (omega arith)
 
-  pub clear-kept : Kept k a b
+  pub clear-kept : OtherRowsKept k a b
   clear-kept =
       record {
         long = λ h. clear (bitAt a) (bits-of a h) .long;

@@ -1,49 +1,95 @@
--- A list in an array turned round.
-use Prim.Native.Nat.{ℕ, zero, suc, _+_, _-_, _≤_, _<_}
-use mathlib.Core.Path.{_≡_, sym, ap, _∙_}
-use mathlib.Core.List.{List, [], _∷_, _++_, reverse, reverseAux}
+-- Rows turned round in place.
+use Prim.Native.Nat.{ℕ, zero, suc, _+_, _-_, _*_, _/_, _%_, _≤_, _<_}
+use mathlib.Core.Path.{_≡_, refl, sym, ap, _∙_}
+use mathlib.Core.Bool.{Bool, true, false}
+use mathlib.Core.List.{List, [], _∷_, reverse, reverseAux}
+use mathlib.Core.Logic.{_⊎_, inl, inr}
 use native.Mathlib.Omega.{arith}
-use lib.ListN.{length, getD, set, take, drop, length-reverse}
+use lib.Dec.{ltb}
+use lib.ListN.{length, getD, set, length-set}
+use lib.Seq.{getD-set-same, getD-set-other}
+use borrow.Author.Tests.{ltb-true, ltb-false}
 use Rattle.definition.specs.Limits.{mostIdentifiers}
-use Rattle.definition.specs.Lists.{padded}
-use Rattle.definition.proofs.Lists.{length-padded}
-use Rattle.arrays.specs.Listed.{Listed, listed, tooLong}
-use Rattle.arrays.proofs.Laws.{getD-padded, part-step, part-whole, drop-padded}
+use Rattle.limits.specs.Arrays.{necessityFields, necessityCells}
+use Rattle.definition.proofs.Basics.Lists.{alike}
 
-get-after : (l r : List ℕ) (i j : ℕ) → j ≡ length l + i → getD (reverseAux l r) j 0 ≡ getD r i 0
-get-after [] r i j e = let q : j ≡ i = omega arith in ap (λ (k : ℕ). getD r k 0) q
-get-after (x ∷ l) r i j e = get-after l (x ∷ r) (suc i) j (omega arith)
+module _ {A : Type 0} (none : A) where
+  get-after : (l r : List A) (i j : ℕ) → j ≡ length l + i → getD (reverseAux l r) j none ≡ getD r i none
+  get-after [] r i j e = let q : j ≡ i = omega arith in ap (λ (k : ℕ). getD r k none) q
+  get-after (x ∷ l) r i j e = get-after l (x ∷ r) (suc i) j (omega arith)
 
-get-onto : (l r : List ℕ) (i j : ℕ) → j + i + 1 ≡ length l → getD (reverseAux l r) j 0 ≡ getD l i 0
-get-onto [] r i j e = absurd (omega arith)
-get-onto (x ∷ l) r zero j e = get-after l (x ∷ r) 0 j (omega arith)
-get-onto (x ∷ l) r (suc i) j e = get-onto l (x ∷ r) i j (omega arith)
+  get-onto : (l r : List A) (i j : ℕ) → i + j + 1 ≡ length l → getD (reverseAux l r) j none ≡ getD l i none
+  get-onto [] r i j e = absurd (omega arith)
+  get-onto (x ∷ l) r zero j e = get-after l (x ∷ r) 0 j (omega arith)
+  get-onto (x ∷ l) r (suc i) j e = get-onto l (x ∷ r) i j (omega arith)
 
-pub get-reverse : (l : List ℕ) (i j : ℕ) → j + i + 1 ≡ length l → getD (reverse l) j 0 ≡ getD l i 0
-get-reverse l i j e = get-onto l [] i j e
+  pub get-reverse : (l : List A) (i j : ℕ) → i + j + 1 ≡ length l → getD (reverse l) j none ≡ getD l i none
+  get-reverse l i j e = get-onto l [] i j e
 
--- the array w of the list is turned from the front: its first i entries are the reversed list's
-abbrev pub Turning : List ℕ → ℕ → List ℕ → List ℕ → Type 0
-Turning l i w a = a ≡ take i (padded mostIdentifiers (reverse l)) ++ drop i w
+module _ (count : ℕ) where
+  -- the cell of the same field, as far from the top
+  abbrev pub mirror : ℕ → ℕ
+  mirror p = (count - 1 - p / necessityFields) * necessityFields + p % necessityFields
 
-pub turn-next : {l : List ℕ} {n : ℕ} {w a : List ℕ} (i x : ℕ) → Listed l n w → n ≤ mostIdentifiers → i < n → x ≡ getD w (n - 1 - i) 0 → Turning l i w a → Turning l (i + 1) w (set a i x)
-turn-next {l} {n} {w} {a} i x (listed b e q) h r s t =
-    let long : length w ≡ mostIdentifiers = ap length q ∙ length-padded mostIdentifiers l (omega arith) in
-    let turned : length (padded mostIdentifiers (reverse l)) ≡ mostIdentifiers = length-padded mostIdentifiers (reverse l) (omega (arith, length-reverse l)) in
-    let at : x ≡ getD (padded mostIdentifiers (reverse l)) i 0 =
-    s ∙ ap (λ (v : List ℕ). getD v (n - 1 - i) 0) q ∙ getD-padded mostIdentifiers l (n - 1 - i) ∙ sym (getD-padded mostIdentifiers (reverse l) i ∙ get-reverse l (n - 1 - i) i (omega arith)) in
-    ap (λ (v : List ℕ). set v i x) t ∙ part-step (padded mostIdentifiers (reverse l)) w (turned ∙ sym long) i x (omega arith) at
-turn-next i x (tooLong b e) h r s t = absurd (omega arith)
+  mirror-back : (p : ℕ) → p < count * necessityFields → mirror (mirror p) ≡ p
+  mirror-back p h = omega (arith, h)
 
-pub turn-end : {l : List ℕ} {n : ℕ} {w a : List ℕ} (i : ℕ) → Listed l n w → n ≤ mostIdentifiers → i ≤ n → n ≤ i → Turning l i w a → Listed (reverse l) n a
-turn-end {l} {n} {w} {a} i (listed b e q) h u o t =
-    let c : length (reverse l) ≡ n = length-reverse l ∙ e in
-    let long : length w ≡ mostIdentifiers = ap length q ∙ length-padded mostIdentifiers l (omega arith) in
-    let turned : length (padded mostIdentifiers (reverse l)) ≡ mostIdentifiers = length-padded mostIdentifiers (reverse l) (omega arith) in
-    let rest : drop i (padded mostIdentifiers (reverse l)) ≡ drop i w = drop-padded mostIdentifiers i (reverse l) l (omega arith) (omega arith) (omega arith) ∙ ap (drop i) (sym q) in
-    listed b c (t ∙ part-whole (padded mostIdentifiers (reverse l)) w (turned ∙ sym long) i rest)
-turn-end i (tooLong b e) h u o t = absurd (omega arith)
+  -- from w to a the first p cells are exchanged with their mirrors
+  pub record Turning (p : ℕ) (w a : List ℕ) : Type 0 where
+    pub long : length a ≡ length w
+    pub lower : (q : ℕ) → q < p → getD a q 0 ≡ getD w (mirror q) 0
+    pub upper : (q : ℕ) → q < p → getD a (mirror q) 0 ≡ getD w q 0
+    pub rest : (q : ℕ) → p ≤ q → p ≤ mirror q → q < count * necessityFields → getD a q 0 ≡ getD w q 0
 
-pub turn-full : {l : List ℕ} {n : ℕ} {a b : List ℕ} → Listed l n a → mostIdentifiers < n → Listed (reverse l) n b
-turn-full (listed b e q) h = absurd (omega arith)
-turn-full {l} (tooLong b e) h = tooLong b (omega (arith, length-reverse l))
+  pub turn-start : (w : List ℕ) → Turning 0 w w
+  turn-start w = record { long = refl; lower = λ q h. absurd (omega (arith, h)); upper = λ q h. absurd (omega (arith, h)); rest = λ q h m i. refl }
+
+  module _ (p : ℕ) {w a : List ℕ} (long : length w ≡ necessityCells) (few : count ≤ mostIdentifiers) (low : p < count / 2 * necessityFields) (t : Turning p w a) where
+    abbrev m : ℕ
+    m = mirror p
+
+    abbrev b : List ℕ
+    b = set (set a p (getD a m 0)) m (getD a p 0)
+
+    at-p : getD b p 0 ≡ getD a m 0
+    at-p = getD-set-other (set a p (getD a m 0)) m p (getD a p 0) 0 (λ e. omega (arith, e, low)) ∙ getD-set-same a p (getD a m 0) 0 (omega (arith, t .long, long, low, few))
+
+    at-m : getD b m 0 ≡ getD a p 0
+    at-m = getD-set-same (set a p (getD a m 0)) m (getD a p 0) 0 (omega (arith, length-set a p (getD a m 0), t .long, long, low, few))
+
+    at-other : (q : ℕ) → (q ≡ p → ⊥) → (q ≡ m → ⊥) → getD b q 0 ≡ getD a q 0
+    at-other q x y = getD-set-other (set a p (getD a m 0)) m q (getD a p 0) 0 y ∙ getD-set-other a p q (getD a m 0) 0 x
+
+    pub turn-next : Turning (p + 1) w b
+    turn-next =
+        record {
+          long = length-set (set a p (getD a m 0)) m (getD a p 0) ∙ length-set a p (getD a m 0) ∙ t .long;
+          lower = λ q h. below q h (alike q p);
+          upper = λ q h. above q h (alike q p);
+          rest = λ q h k i. at-other q (λ e. omega (arith, e, h)) (λ e. omega (arith, k, ap mirror e ∙ mirror-back p (omega (arith, low)))) ∙ t .rest q (omega (arith, h)) (omega (arith, k)) i;
+        }
+      where
+        below : (q : ℕ) → q < p + 1 → (q ≡ p) ⊎ (q ≡ p → ⊥) → getD b q 0 ≡ getD w (mirror q) 0
+        below q h (inl e) = rw e (at-p ∙ t .rest m (omega (arith, low)) (omega (arith, low)) (omega (arith, low)))
+        below q h (inr e) = at-other q e (λ f. omega (arith, f, h, low)) ∙ t .lower q (omega (arith, h, e))
+
+        above : (q : ℕ) → q < p + 1 → (q ≡ p) ⊎ (q ≡ p → ⊥) → getD b (mirror q) 0 ≡ getD w q 0
+        above q h (inl e) = rw e (at-m ∙ t .rest p (omega arith) (omega (arith, low)) (omega (arith, low)))
+        above q h (inr e) = at-other (mirror q) (λ f. omega (arith, f, h, low)) (λ f. e (sym (mirror-back q (omega (arith, h, low))) ∙ ap mirror f ∙ mirror-back p (omega (arith, low)))) ∙ t .upper q (omega (arith, h, e))
+
+  pub turn-end : (p : ℕ) {w a : List ℕ} → count / 2 * necessityFields ≤ p → p ≤ count / 2 * necessityFields → Turning p w a
+      → (i k j : ℕ) → i + k + 1 ≡ count → j < necessityFields → getD a (k * necessityFields + j) 0 ≡ getD w (i * necessityFields + j) 0
+  turn-end p {w} {a} past up t i k j e f = go (ltb k i) (ltb i k) refl refl
+    where
+      go : (x y : Bool) → ltb k i ≡ x → ltb i k ≡ y → getD a (k * necessityFields + j) 0 ≡ getD w (i * necessityFields + j) 0
+      go true y h g =
+          let low : k < i = ltb-true k i h in
+          let d : mirror (k * necessityFields + j) ≡ i * necessityFields + j = omega (arith, e, f) in
+          t .lower (k * necessityFields + j) (omega (arith, low, e, f, past)) ∙ ap (λ (z : ℕ). getD w z 0) d
+      go false true h g =
+          let low : i < k = ltb-true i k g in
+          let d : mirror (i * necessityFields + j) ≡ k * necessityFields + j = omega (arith, e, f) in
+          ap (λ (z : ℕ). getD a z 0) (sym d) ∙ t .upper (i * necessityFields + j) (omega (arith, low, e, f, past))
+      go false false h g =
+          let same : k ≡ i = omega (arith, ltb-false k i h, ltb-false i k g) in
+          t .rest (k * necessityFields + j) (omega (arith, same, e, up)) (omega (arith, same, e, up, f)) (omega (arith, e, f)) ∙ ap (λ (z : ℕ). getD w (z * necessityFields + j) 0) same

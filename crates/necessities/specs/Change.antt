@@ -8,11 +8,11 @@ use Rattle.limits.specs.Arrays.{leafWords}
 use Rattle.necessities.specs.Stored.{InRow}
 
 -- from a to b every row but row k keeps its numbers
-pub record Kept (k : ℕ) (a b : List ℕ) : Type 0 where
+pub record OtherRowsKept (k : ℕ) (a b : List ℕ) : Type 0 where
   pub long : length a ≡ leafWords → length b ≡ leafWords
   pub others : (j : ℕ) (l : List ℕ) → j ≢ k → InRow j l a → InRow j l b
 
 -- from a to b the numbers of the list come to row k
 pub record Added (k : ℕ) (l : List ℕ) (a b : List ℕ) : Type 0 where
-  pub kept : Kept k a b
+  pub kept : OtherRowsKept k a b
   pub here : (old : List ℕ) → InRow k old a → InRow k (old ++ l) b

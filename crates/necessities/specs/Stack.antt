@@ -1,34 +1,21 @@
--- The stack of stored necessities in arrays.
-use Prim.Native.Nat.{ℕ, _≤_, _<_}
+-- The stack of stored necessities in an array, and their leaves in a table of bits.
+use Prim.Native.Nat.{ℕ, _+_, _≤_, _<_}
 use mathlib.Core.Path.{_≡_}
-use mathlib.Core.List.{List, [], _∷_, _++_, reverse}
-use lib.ListN.{length}
+use mathlib.Core.List.{List, [], _++_}
+use lib.ListN.{length, getD}
 use Rattle.definition.specs.Limits.{mostIdentifiers}
 use Rattle.limits.specs.Arrays.{necessityCells, leafWords}
-use Rattle.arrays.specs.Listed.{Listed}
-use Rattle.definition.specs.Lists.{Each, Distinct}
 use Rattle.definition.specs.Modality.{Necessity}
-use Rattle.necessities.specs.Stored.{Row}
+use Rattle.necessities.specs.Stored.{numberAt, Row}
 
--- each row has its necessity
-abbrev pub Rows : List Necessity → List ℕ → List ℕ → List ℕ → List ℕ → Type 0
-Rows [] [] rows leafBits visited = Unit {0}
-Rows [] (k ∷ ks) rows leafBits visited = ⊥
-Rows (n ∷ ns) [] rows leafBits visited = ⊥
-Rows (n ∷ ns) (k ∷ ks) rows leafBits visited = Row n k rows leafBits visited × Rows ns ks rows leafBits visited
-
--- ks: the rows of the necessities, the last one pushed first. `order` lists them from the bottom to the top. Rows from count on are free
-pub record Stack (ns : List Necessity) (count : ℕ) (order rows leafBits visited : List ℕ) : Type 0 where
-  pub ks : List ℕ
+-- the rows are the stack's, from the bottom to the top: the necessity that stands i below the top has k below it. Leaf bits from row count on are free
+pub record Stack (ns : List Necessity) (count : ℕ) (a leaves : List ℕ) : Type 0 where
   pub room : count ≤ mostIdentifiers
-  pub counted : length ks ≡ count
-  pub listed : Listed (reverse ks) count order
-  pub used : Each (λ k. k < count) ks
-  pub apart : Distinct ks
-  pub stored : Rows ns ks rows leafBits visited
-  pub rowsLong : length rows ≡ necessityCells
-  pub leavesLong : length leafBits ≡ leafWords
-  pub visitedLong : length visited ≡ mostIdentifiers
+  pub counted : length ns ≡ count
+  pub stored : (none : Necessity) (i k : ℕ) → i + k + 1 ≡ count → Row (getD ns i none) k a leaves
+  pub used : (k : ℕ) → k < count → numberAt a k 4 < count
+  pub long : length a ≡ necessityCells
+  pub leavesLong : length leaves ≡ leafWords
 
 -- a necessity that has visited no world
 unfoldable pub fresh : ℕ → ℕ → ℕ → List ℕ → Necessity

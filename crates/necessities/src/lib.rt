@@ -1,10 +1,8 @@
-// The stack of stored necessities: rows of numbers and bits, and the rows' order from the bottom to the top.
-// Of a call whose arrays lay out nothing of the kind that its contract names: it ends and stays in bounds; its outcome is free.
+// The stack of stored necessities, a row of numbers each: formula, world, spawner, the word of the worlds that it has visited, and the row of leaf bits where its leaves stand.
 use arrays::nth;
-use arrays::push;
 use bits::clear_row;
 use bits::insert;
-use bits::with_bit;
+use bits::union;
 use formula::FormulaNumber;
 use graph::PossibleWorld;
 use limits::FULL;
@@ -13,25 +11,25 @@ use limits::MOST_IDENTIFIERS;
 use limits::NECESSITY_FIELDS;
 use limits::Necessities;
 use limits::Numbers;
-use limits::Order;
-use limits::Worlds;
 use tree::ProofTreeNodeID;
 ghost use mathlib.Core.Path.{_≡_};
-ghost use mathlib.Core.List.{List, _∷_, _++_, reverse};
+ghost use mathlib.Core.List.{List, [], _∷_, reverse};
 ghost use Prim.Native.Nat.{ℕ, _+_, _*_, _≤_, _<_};
 ghost use lib.ListN.{getD, set};
+ghost use lib.Seq.{sets};
 ghost use Rattle.definition.specs.Limits.{mostIdentifiers};
 ghost use Rattle.limits.specs.Arrays.{necessityFields};
 ghost use Rattle.arrays.specs.Listed.{Listed};
+ghost use Rattle.bits.specs.Worlds.{worldsIn};
 ghost use Rattle.definition.specs.Lists.{Each};
 ghost use Rattle.definition.specs.Modality.{Necessity};
-ghost use Rattle.necessities.specs.Stored.{InWord, Row};
+ghost use Rattle.necessities.specs.Stored.{InRow, InWord, numberAt, Row};
 ghost use Rattle.necessities.specs.Change.{Added};
 ghost use Rattle.necessities.specs.Stack.{Stack, fresh, visits};
 
 // Number j of row k.
-fn number(rows: &Necessities, k: usize, j: usize) -> u16
-    ensures { λ r. ⌜ (k < mostIdentifiers → j < necessityFields → r ≡ getD (now (rows .entry)) (k * necessityFields + j) 0) ⌝ }
+fn number(necessities: &Necessities, k: usize, j: usize) -> u32
+    ensures { λ r. ⌜ (k < mostIdentifiers → j < necessityFields → r ≡ numberAt (now (necessities .entry)) k j) ⌝ }
 {
     if MOST_IDENTIFIERS <= k {
         return 0;
@@ -39,145 +37,130 @@ fn number(rows: &Necessities, k: usize, j: usize) -> u16
     if NECESSITY_FIELDS <= j {
         return 0;
     }
-    rows[k * NECESSITY_FIELDS + j]
+    necessities[k * NECESSITY_FIELDS + j]
 }
 
-pub fn formula_at(rows: &Necessities, k: usize) -> FormulaNumber
-    ensures { λ r. ⌜ ((n : Necessity) (leafBits visited : List ℕ) → Row n k (now (rows .entry)) leafBits visited → r .0 ≡ n .formula) ⌝ }
+// Number j of row k, one of the first three.
+fn short_at(necessities: &Necessities, k: usize, j: usize) -> u16
+    ensures { λ r. ⌜ ((n : Necessity) (leaves : List ℕ) → Row n k (now (necessities .entry)) leaves → j < 3 → r ≡ numberAt (now (necessities .entry)) k j) ⌝ }
 {
-    FormulaNumber(number(rows, k, 0))
+    (number(necessities, k, j) % 65536) as u16
 }
 
-pub fn world_at(rows: &Necessities, k: usize) -> PossibleWorld
-    ensures { λ r. ⌜ ((n : Necessity) (leafBits visited : List ℕ) → Row n k (now (rows .entry)) leafBits visited → r .0 ≡ n .world) ⌝ }
+pub fn formula_at(necessities: &Necessities, k: usize) -> FormulaNumber
+    ensures { λ r. ⌜ ((n : Necessity) (leaves : List ℕ) → Row n k (now (necessities .entry)) leaves → r .0 ≡ n .formula) ⌝ }
 {
-    PossibleWorld(number(rows, k, 1))
+    FormulaNumber(short_at(necessities, k, 0))
 }
 
-pub fn spawner_at(rows: &Necessities, k: usize) -> ProofTreeNodeID
-    ensures { λ r. ⌜ ((n : Necessity) (leafBits visited : List ℕ) → Row n k (now (rows .entry)) leafBits visited → r .0 ≡ n .spawner) ⌝ }
+pub fn world_at(necessities: &Necessities, k: usize) -> PossibleWorld
+    ensures { λ r. ⌜ ((n : Necessity) (leaves : List ℕ) → Row n k (now (necessities .entry)) leaves → r .0 ≡ n .world) ⌝ }
 {
-    ProofTreeNodeID(number(rows, k, 2))
+    PossibleWorld(short_at(necessities, k, 1))
+}
+
+pub fn spawner_at(necessities: &Necessities, k: usize) -> ProofTreeNodeID
+    ensures { λ r. ⌜ ((n : Necessity) (leaves : List ℕ) → Row n k (now (necessities .entry)) leaves → r .0 ≡ n .spawner) ⌝ }
+{
+    ProofTreeNodeID(short_at(necessities, k, 2))
 }
 
 // The worlds that the necessity of row k has visited, one bit each.
-pub fn visited_at(visited: &Worlds, k: usize) -> u32
-    ensures { λ r. ⌜ ((n : Necessity) (rows leafBits : List ℕ) → Row n k rows leafBits (now (visited .entry)) → InWord (n .visited) r) ⌝ }
+pub fn visited_at(necessities: &Necessities, k: usize) -> u32
+    ensures { λ r. ⌜ ((n : Necessity) (leaves : List ℕ) → Row n k (now (necessities .entry)) leaves → InWord (n .visited) r) ⌝ }
 {
-    if MOST_IDENTIFIERS <= k {
-        return 0;
-    }
-    visited[k]
+    number(necessities, k, 3)
 }
 
-// Stores the numbers of row k.
+// The row of leaf bits that has the leaves of the necessity of row k.
+pub fn leaf_row_at(necessities: &Necessities, k: usize) -> usize
+    ensures { λ r. ⌜ ((n : Necessity) (leaves : List ℕ) → Row n k (now (necessities .entry)) leaves → InRow r (n .leaves) leaves) ⌝ }
+{
+    number(necessities, k, 4) as usize
+}
+
+// Stores the numbers of row k, whose leaves stand in row k too.
 fn put_row(
-    rows: &mut Necessities,
+    necessities: &mut Necessities,
     k: usize,
     formula: FormulaNumber,
     world: PossibleWorld,
     spawner: ProofTreeNodeID,
 )
-    ensures { λ r. ⌜ (k < mostIdentifiers → now (rows .exit) ≡ set (set (set (now (rows .entry)) (k * necessityFields) (formula .0)) (k * necessityFields + 1) (world .0)) (k * necessityFields + 2) (spawner .0)) ⌝ }
+    ensures { λ r. ⌜ (k < mostIdentifiers → now (necessities .exit) ≡ sets (now (necessities .entry)) (k * necessityFields) (formula .0 ∷ world .0 ∷ spawner .0 ∷ 0 ∷ k ∷ [])) ⌝ }
 {
     if MOST_IDENTIFIERS <= k {
         return;
     }
-    rows[k * NECESSITY_FIELDS] = formula.0;
-    rows[k * NECESSITY_FIELDS + 1] = world.0;
-    rows[k * NECESSITY_FIELDS + 2] = spawner.0;
+    necessities[k * NECESSITY_FIELDS] = formula.0 as u32;
+    necessities[k * NECESSITY_FIELDS + 1] = world.0 as u32;
+    necessities[k * NECESSITY_FIELDS + 2] = spawner.0 as u32;
+    necessities[k * NECESSITY_FIELDS + 3] = 0;
+    necessities[k * NECESSITY_FIELDS + 4] = k as u32;
 }
 
 // Puts the listed numbers, each below MOST_IDENTIFIERS, into row k.
-fn insert_all(words: &mut Leaves, k: usize, list: &Numbers, m: usize)
-    ensures { λ r. ⌜ ((l : List ℕ) → Listed l m (now (list .entry)) → m ≤ mostIdentifiers → Each (λ x. x < mostIdentifiers) l → Added k l (now (words .entry)) (now (words .exit))) ⌝ }
+fn insert_all(leaves: &mut Leaves, k: usize, list: &Numbers, m: usize)
+    ensures { λ r. ⌜ ((l : List ℕ) → Listed l m (now (list .entry)) → m ≤ mostIdentifiers → Each (λ x. x < mostIdentifiers) l → Added k l (now (leaves .entry)) (now (leaves .exit))) ⌝ }
 {
     if MOST_IDENTIFIERS <= k {
         return;
     }
     for i in 0..m {
         let x = nth(list, i) as usize;
-        insert(words, k * MOST_IDENTIFIERS + x);
+        insert(leaves, k * MOST_IDENTIFIERS + x);
     }
-}
-
-// The row of the necessity that stands i below the top.
-pub fn row_at(order: &Order, count: usize, i: usize) -> usize
-    ensures { λ r. ⌜ ((ns : List Necessity) (rows leafBits visited : List ℕ) (s : Stack ns count (now (order .entry)) rows leafBits visited) → i < count → r ≡ getD (s .ks) i 0) ⌝ }
-{
-    if count <= i {
-        return 0;
-    }
-    nth(order, count - 1 - i) as usize
 }
 
 // Pushes a necessity with the listed leaves, which has visited no world; FULL where there is no room.
 pub fn store(
-    order: &mut Order,
+    necessities: &mut Necessities,
     count: usize,
-    rows: &mut Necessities,
-    leaf_bits: &mut Leaves,
-    visited: &mut Worlds,
+    leaves: &mut Leaves,
     formula: FormulaNumber,
     world: PossibleWorld,
     spawner: ProofTreeNodeID,
-    leaves: &Numbers,
+    list: &Numbers,
     m: usize,
 ) -> usize
-    ensures { λ r. ⌜ ((ns : List Necessity) (l : List ℕ) → Stack ns count (now (order .entry)) (now (rows .entry)) (now («leaf_bits» .entry)) (now (visited .entry)) → count < mostIdentifiers
-        → Listed l m (now (leaves .entry)) → m ≤ mostIdentifiers → Each (λ x. x < mostIdentifiers) l
-        → Stack (fresh (formula .0) (world .0) (spawner .0) l ∷ ns) r (now (order .exit)) (now (rows .exit)) (now («leaf_bits» .exit)) (now (visited .exit))) ⌝ }
+    ensures { λ r. ⌜ ((ns : List Necessity) (l : List ℕ) → Stack ns count (now (necessities .entry)) (now (leaves .entry)) → count < mostIdentifiers
+        → Listed l m (now (list .entry)) → m ≤ mostIdentifiers → Each (λ x. x < mostIdentifiers) l
+        → Stack (fresh (formula .0) (world .0) (spawner .0) l ∷ ns) r (now (necessities .exit)) (now (leaves .exit))) ⌝ }
 {
     if MOST_IDENTIFIERS <= count {
         return FULL;
     }
-    put_row(rows, count, formula, world, spawner);
-    clear_row(leaf_bits, count);
-    insert_all(leaf_bits, count, leaves, m);
-    visited[count] = 0;
-    push(order, count, count as u16)
+    put_row(necessities, count, formula, world, spawner);
+    clear_row(leaves, count);
+    insert_all(leaves, count, list, m);
+    count + 1
 }
 
-// The word with the bits of the listed numbers, each below 32.
-fn with_bits(word: u32, list: &Numbers, m: usize) -> u32
-    ensures { λ r. ⌜ ((old l : List ℕ) → Listed l m (now (list .entry)) → m ≤ mostIdentifiers → Each (λ x. x < 32) l → InWord old word → InWord (old ++ l) r) ⌝ }
-{
-    let mut more = word;
-    for j in 0..m {
-        more = with_bit(more, nth(list, j) as usize);
-    }
-    more
-}
-
-// The necessity of row k, which stands i below the top, has visited the listed worlds too.
-pub fn visit(visited: &mut Worlds, k: usize, list: &Numbers, m: usize)
-    ensures { λ r. ⌜ ((ns : List Necessity) (count i : ℕ) (order rows leafBits l : List ℕ) (none : Necessity) (s : Stack ns count order rows leafBits (now (visited .entry))) → i < count → k ≡ getD (s .ks) i 0
-        → Listed l m (now (list .entry)) → m ≤ mostIdentifiers → Each (λ x. x < 32) l
-        → Stack (set ns i (visits (getD ns i none) l)) count order rows leafBits (now (visited .exit))) ⌝ }
+// The necessity of row k, which stands i below the top, has visited the worlds of the word too.
+pub fn visit(necessities: &mut Necessities, k: usize, worlds: u32)
+    ensures { λ r. ⌜ ((ns : List Necessity) (count i : ℕ) (leaves : List ℕ) (none : Necessity) → Stack ns count (now (necessities .entry)) leaves → i + k + 1 ≡ count
+        → Stack (set ns i (visits (getD ns i none) (worldsIn worlds))) count (now (necessities .exit)) leaves) ⌝ }
 {
     if MOST_IDENTIFIERS <= k {
         return;
     }
-    let word = visited[k];
-    visited[k] = with_bits(word, list, m);
+    let at = k * NECESSITY_FIELDS + 3;
+    let word = necessities[at];
+    necessities[at] = union(word, worlds);
 }
 
-// The first n entries in the opposite order.
-fn reverse(a: &mut Numbers, n: usize)
-    ensures { λ r. ⌜ ((l : List ℕ) → Listed l n (now (a .entry)) → Listed (reverse l) n (now (a .exit))) ⌝ }
+// The stack turned round: each number of the lower half is exchanged with that of the row which stands as far from the top.
+pub fn turn(necessities: &mut Necessities, count: usize)
+    ensures { λ r. ⌜ ((ns : List Necessity) (leaves : List ℕ) → Stack ns count (now (necessities .entry)) leaves → Stack (reverse ns) count (now (necessities .exit)) leaves) ⌝ }
 {
-    if MOST_IDENTIFIERS < n {
+    if MOST_IDENTIFIERS < count {
         return;
     }
-    let old = *a;
-    for i in 0..n {
-        a[i] = old[n - 1 - i];
+    let half = count / 2 * NECESSITY_FIELDS;
+    for p in 0..half {
+        let q = (count - 1 - p / NECESSITY_FIELDS) * NECESSITY_FIELDS + p % NECESSITY_FIELDS;
+        let number = necessities[p];
+        necessities[p] = necessities[q];
+        necessities[q] = number;
     }
-}
-
-// The stack turned round.
-pub fn turn(order: &mut Order, count: usize)
-    ensures { λ r. ⌜ ((ns : List Necessity) (rows leafBits visited : List ℕ) → Stack ns count (now (order .entry)) rows leafBits visited → Stack (reverse ns) count (now (order .exit)) rows leafBits visited) ⌝ }
-{
-    reverse(order, count);
 }

@@ -6,6 +6,7 @@ use mathlib.Core.List.{List}
 use mathlib.Core.Option.{Option}
 use lib.ListN.{length}
 use Rattle.definition.specs.Limits.{mostIdentifiers}
+use Rattle.limits.specs.Lent.{Lent}
 use Rattle.arrays.specs.Listed.{Listed}
 use Rattle.definition.specs.Lists.{all}
 use Rattle.definition.specs.Setting.{Setting}
@@ -15,26 +16,31 @@ use Rattle.definition.specs.Rules.{Rule, nothing, down, split, asPossible, asNe
 use Rattle.definition.specs.Subtree.{Subtree, turned, numbered, appendSubtree, appendLogicRuleResult}
 use Rattle.definition.specs.Contradiction.{Pair, pairs, markAll, isPair}
 use Rattle.definition.specs.Run.{State, LogicRuleResult, applyHere, applyPossibility, applyNecessity, applyRule, checkedForContradictions, checkForContradictions}
-use Rattle.definition.proofs.Treed.{Treed}
-use Rattle.definition.proofs.Growing.{here-treed}
+use Rattle.definition.specs.TreeShape.{Treed}
+use Rattle.definition.proofs.Run.TreeKept.{here-treed}
 use Rattle.tree.specs.Lay.{Held}
 use Rattle.subtree.specs.declared.ProofSubtree.{ProofSubtree}
 use Rattle.subtree.specs.declared.Counts.{Counts}
 use Rattle.subtree.specs.Subtree.{subtreeOf, Chained, Left}
 use Rattle.rules.specs.declared.AppliedHere.{AppliedHere}
 use Rattle.rules.specs.Here.{hereOf, Here}
-use Rattle.logic.specs.declared.Sizes.{Sizes}
-use Rattle.logic.specs.Sizes.{Before, After, placing}
+use Rattle.logic.specs.declared.Progress.{Progress}
+use Rattle.logic.specs.Applied.{Before, After}
 use Rattle.logic.proofs.Forked.{before-held}
+
+-- the arrays, but with these formulas, nodes, waiting nodes and classes
+abbrev pub but : Lent → (formulas nodes waiting classes : List ℕ) → Lent
+but A formulas nodes waiting classes =
+    record { formulas = formulas; nodes = nodes; edges = A .edges; necessities = A .necessities; leaves = A .leaves; waiting = waiting; classes = classes }
 
 -- the three chains as a subtree
 abbrev pub asSubtree : AppliedHere → ProofSubtree
 asSubtree h = record { left = h .left; middle = h .middle; right = h .right }
 
-pub here-after : (s : State) (x : ℕ) (recs : List Rec) (fs : Subtree) (q : List ℕ) {p : Sizes} {ta tb tc ea ra la va oa wa wb : List ℕ} {h : AppliedHere} {r : Counts} → Before p ta ea ra la va oa wa s q →
+pub here-after : (s : State) (x : ℕ) (recs : List Rec) (fs : Subtree) (q : List ℕ) {p : Progress} {B : Lent} {ta tb wa : List ℕ} {h : AppliedHere} {r : Counts} → Before p (but B (B .formulas) ta wa (B .classes)) s q →
     (Held (s .nodes) (p .nodes) ta → Here (s .nodes) x (nodeAt (s .nodes) x .world) fs h tb) →
-    ((ns : List Node) (q : List ℕ) (t : Subtree) → Held ns (h .nodes) tb → (h .nodes ≤ mostIdentifiers → Listed q (p .waiting) wa) → (length ns ≤ mostIdentifiers → Chained (asSubtree h) t (length ns)) → (length ns ≤ mostIdentifiers → Treed ns) → Left (appendSubtree ns q x t) r tc wb) →
-    After (record { nodes = r .nodes; waiting = r .waiting; worlds = p .worlds; necessities = p .necessities }) tc ea ra la va oa wb (applyHere s x recs fs) (placing s q (applyHere s x recs fs))
+    ((ns : List Node) (q : List ℕ) (t : Subtree) → Held ns (h .nodes) tb → (h .nodes ≤ mostIdentifiers → Listed q (p .waiting) wa) → (length ns ≤ mostIdentifiers → Chained (asSubtree h) t (length ns)) → (length ns ≤ mostIdentifiers → Treed ns) → Left (appendSubtree ns q x t) r (B .nodes) (B .waiting)) →
+    After (record { formulas = p .formulas; nodes = r .nodes; worlds = p .worlds; necessities = p .necessities; waiting = r .listed; steps = p .steps; proved = p .proved }) B s q (applyHere s x recs fs)
 unfolding applyHere appendLogicRuleResult subtreeOf
 here-after s x recs fs q b make place =
     let h = make (before-held b) in
@@ -51,7 +57,7 @@ Plain (asPossible f) = ⊥
 Plain (asNecessary f) = ⊥
 
 module _ (F : Setting) (s : State) (x : ℕ) (recs : List Rec) where
-  pub rule-here : (r : Rule ℕ) → Plain r → applyHere s x recs (hereOf r) ≡ applyRule F s x recs r
+  rule-here : (r : Rule ℕ) → Plain r → applyHere s x recs (hereOf r) ≡ applyRule F s x recs r
   unfolding applyRule
   rule-here nothing h = refl
   rule-here (down fs) h = refl
@@ -67,8 +73,12 @@ module _ (F : Setting) (s : State) (x : ℕ) (recs : List Rec) where
   unfolding applyRule
   rule-necessary f = refl
 
-pub after-as : (s : State) (q : List ℕ) {r r′ : LogicRuleResult} {p : Sizes} {ta ea ra la va oa wa : List ℕ} → r ≡ r′ → After p ta ea ra la va oa wa r (placing s q r) → After p ta ea ra la va oa wa r′ (placing s q r′)
-after-as s q {p = p} {ta} {ea} {ra} {la} {va} {oa} {wa} e h = subst (λ (r : LogicRuleResult). After p ta ea ra la va oa wa r (placing s q r)) e h
+pub after-as : (s : State) (q : List ℕ) {r r′ : LogicRuleResult} {p : Progress} {B : Lent} → r ≡ r′ → After p B s q r → After p B s q r′
+after-as s q {p = p} {B} e h = subst (λ (r : LogicRuleResult). After p B s q r) e h
+
+pub after-here : (F : Setting) (s : State) (x : ℕ) (recs : List Rec) (q : List ℕ) (r : Rule ℕ) → Plain r → {p : Progress} {B : Lent} →
+    After p B s q (applyHere s x recs (hereOf r)) → After p B s q (applyRule F s x recs r)
+after-here F s x recs q r plain h = after-as s q (rule-here F s x recs r plain) h
 
 -- contradictions
 module _ (F : Setting) (s : State) where

@@ -1,5 +1,4 @@
 // The run: a step, and the steps until none is due.
-// Of a call whose arrays lay out nothing of the kind that its contract names: it ends and stays in bounds; its outcome is free.
 use contradictions::check_for_contradictions;
 use limits::Classes;
 use limits::ENOUGH_STEPS;
@@ -10,11 +9,9 @@ use limits::Leaves;
 use limits::MOST_IDENTIFIERS;
 use limits::Necessities;
 use limits::Nodes;
-use limits::Order;
 use limits::WORLD_LIMIT;
 use limits::Waiting;
-use limits::Worlds;
-use logic::Sizes;
+use logic::Progress;
 use logic::apply_necessity;
 use logic::apply_possibility;
 use queue::Popped;
@@ -35,33 +32,21 @@ ghost use Prim.Native.Nat.{ℕ, suc, _<_, _≤_};
 ghost use Rattle.definition.specs.Limits.{mostIdentifiers, mostFormulas};
 ghost use Rattle.definition.specs.Records.{Rec};
 ghost use Rattle.definition.specs.Setting as D;
-ghost use Rattle.definition.specs.Tree.{leaves};
 ghost use Rattle.definition.specs.Run.{State, applyHere, applyRule, checkForContradictions, stops, run, enoughSteps};
-ghost use Rattle.definition.proofs.Ready.{Fit};
-ghost use Rattle.definition.proofs.Fresh.{Since, Watch};
-ghost use Rattle.definition.proofs.Spawned.{AllRooted};
+ghost use Rattle.definition.specs.Reached.{Reached};
+ghost use Rattle.definition.specs.Shortcuts.{CheckedAt};
+ghost use Rattle.limits.specs.Lent.{Lent};
 ghost use Rattle.formula.specs.Recorded.{Recorded};
 ghost use Rattle.setting.specs.Asked.{asked};
 ghost use Rattle.tree.specs.Lay.{Held};
 ghost use Rattle.rules.specs.Consequences.{consequenceOf};
 ghost use Rattle.rules.specs.Here.{hereOf};
-ghost use Rattle.logic.specs.Sizes.{Before, After, placing};
-ghost use Rattle.proof.specs.Kept.{Laid, Kept};
-
-// The counts of a run, and whether it has proved. More nodes than there is room for: full.
-pub struct Progress {
-    pub formulas: usize,
-    pub nodes: usize,
-    pub worlds: usize,
-    pub necessities: usize,
-    pub waiting: usize,
-    pub steps: usize,
-    pub proved: bool,
-}
+ghost use Rattle.logic.specs.Applied.{Before, After, Passed};
+ghost use Rattle.proof.specs.StateHeld.{StateLaid, StateHeld};
 
 // No step is due.
 fn stops(p: Progress) -> bool
-    ensures { λ r. ⌜ ((F : D.Setting) (s : State) (formulas tree edges rows leaves visited order wait classes : List ℕ) → Kept F s p formulas tree edges rows leaves visited order wait classes → r ≡ stops F s) ⌝ }
+    ensures { λ r. ⌜ ((F : D.Setting) (s : State) (A : Lent) → StateHeld F s p A → r ≡ stops F s) ⌝ }
 {
     if MOST_IDENTIFIERS < p.nodes {
         return true;
@@ -77,16 +62,17 @@ fn stops(p: Progress) -> bool
 
 // The rule's nodes at its own world, placed.
 fn append_here(
-    p: Sizes,
+    p: Progress,
     x: ProofTreeNodeID,
     rule: Consequence,
-    tree: &mut Nodes,
-    wait: &mut Waiting,
-) -> Sizes
-    ensures { λ r. ⌜ ((s : State) (more : List Rec) (q ea ra la va oa : List ℕ) → Before p (now (tree .entry)) ea ra la va oa (now (wait .entry)) s q
-        → After r (now (tree .exit)) ea ra la va oa (now (wait .exit)) (applyHere s (x .0) more (hereOf (consequenceOf rule))) (placing s q (applyHere s (x .0) more (hereOf (consequenceOf rule))))) ⌝ }
+    nodes: &mut Nodes,
+    waiting: &mut Waiting,
+) -> Progress
+    ensures { λ r. ⌜ Passed p r × ((s : State) (more : List Rec) (q formulas edges necessities leaves classes : List ℕ)
+        → Before p (record { formulas = formulas; nodes = now (nodes .entry); edges = edges; necessities = necessities; leaves = leaves; waiting = now (waiting .entry); classes = classes }) s q
+        → After r (record { formulas = formulas; nodes = now (nodes .exit); edges = edges; necessities = necessities; leaves = leaves; waiting = now (waiting .exit); classes = classes }) s q (applyHere s (x .0) more (hereOf (consequenceOf rule)))) ⌝ }
 {
-    let h = apply_here(tree, p.nodes, x, rule);
+    let h = apply_here(nodes, p.nodes, x, rule);
     let left = h.left;
     let middle = h.middle;
     let right = h.right;
@@ -95,31 +81,28 @@ fn append_here(
         middle,
         right,
     };
-    let placed = append_subtree(tree, h.nodes, x, t, wait, p.waiting);
-    Sizes {
-        nodes: placed.nodes,
-        waiting: placed.waiting,
-        worlds: p.worlds,
-        necessities: p.necessities,
-    }
+    let placed = append_subtree(nodes, h.nodes, x, t, waiting, p.waiting);
+    let mut after = p;
+    after.nodes = placed.nodes;
+    after.waiting = placed.listed;
+    after
 }
 
 // The rule of node x, by its consequence.
 fn apply(
     setting: Setting,
-    p: Sizes,
+    p: Progress,
     x: ProofTreeNodeID,
     rule: Consequence,
-    tree: &mut Nodes,
+    nodes: &mut Nodes,
     edges: &mut Edges,
-    rows: &mut Necessities,
+    necessities: &mut Necessities,
     leaves: &mut Leaves,
-    visited: &mut Worlds,
-    order: &mut Order,
-    wait: &mut Waiting,
-) -> Sizes
-    ensures { λ r. ⌜ ((s : State) (more : List Rec) (q : List ℕ) → Before p (now (tree .entry)) (now (edges .entry)) (now (rows .entry)) (now (leaves .entry)) (now (visited .entry)) (now (order .entry)) (now (wait .entry)) s q
-        → After r (now (tree .exit)) (now (edges .exit)) (now (rows .exit)) (now (leaves .exit)) (now (visited .exit)) (now (order .exit)) (now (wait .exit)) (applyRule (asked setting) s (x .0) more (consequenceOf rule)) (placing s q (applyRule (asked setting) s (x .0) more (consequenceOf rule)))) ⌝ }
+    waiting: &mut Waiting,
+) -> Progress
+    ensures { λ r. ⌜ Passed p r × ((s : State) (more : List Rec) (q formulas classes : List ℕ)
+        → Before p (record { formulas = formulas; nodes = now (nodes .entry); edges = now (edges .entry); necessities = now (necessities .entry); leaves = now (leaves .entry); waiting = now (waiting .entry); classes = classes }) s q
+        → After r (record { formulas = formulas; nodes = now (nodes .exit); edges = now (edges .exit); necessities = now (necessities .exit); leaves = now (leaves .exit); waiting = now (waiting .exit); classes = classes }) s q (applyRule (asked setting) s (x .0) more (consequenceOf rule))) ⌝ }
 {
     match rule {
         Consequence::AsPossible(f) => apply_possibility(
@@ -127,32 +110,27 @@ fn apply(
             p,
             x,
             f,
-            tree,
+            nodes,
             edges,
-            rows,
-            leaves,
-            visited,
-            order,
-            wait,
+            necessities,
+            waiting,
         ),
         Consequence::AsNecessary(f) => apply_necessity(
             setting,
             p,
             x,
             f,
-            tree,
+            nodes,
             edges,
-            rows,
+            necessities,
             leaves,
-            visited,
-            order,
-            wait,
+            waiting,
         ),
-        Consequence::Nothing => append_here(p, x, rule, tree, wait),
-        Consequence::Down1(_) => append_here(p, x, rule, tree, wait),
-        Consequence::Down2(_, _) => append_here(p, x, rule, tree, wait),
-        Consequence::Split1(_, _) => append_here(p, x, rule, tree, wait),
-        Consequence::Split2(_, _, _, _) => append_here(p, x, rule, tree, wait),
+        Consequence::Nothing => append_here(p, x, rule, nodes, waiting),
+        Consequence::Down1(_) => append_here(p, x, rule, nodes, waiting),
+        Consequence::Down2(_, _) => append_here(p, x, rule, nodes, waiting),
+        Consequence::Split1(_, _) => append_here(p, x, rule, nodes, waiting),
+        Consequence::Split2(_, _, _, _) => append_here(p, x, rule, nodes, waiting),
     }
 }
 
@@ -172,17 +150,17 @@ fn check(
     proved: bool,
     formulas: &Formulas,
     count: usize,
-    tree: &mut Nodes,
+    nodes: &mut Nodes,
     len: usize,
     old: usize,
 ) -> bool
-    ensures { λ r. ⌜ ((s : State) → proved ≡ s .proved → Recorded (s .formulas) count (now (formulas .entry)) → count ≤ mostFormulas → Held (s .nodes) len (now (tree .entry)) → (asked setting .skip ≡ false → len ≤ mostIdentifiers → Since (s .formulas) (s .nodes) old)
-        → Held (checkForContradictions (asked setting) s .nodes) len (now (tree .exit)) × (len ≤ mostIdentifiers → r ≡ checkForContradictions (asked setting) s .proved)) ⌝ }
+    ensures { λ r. ⌜ ((s : State) → proved ≡ s .proved → Recorded (s .formulas) count (now (formulas .entry)) → count ≤ mostFormulas → Held (s .nodes) len (now (nodes .entry)) → (asked setting .skip ≡ false → len ≤ mostIdentifiers → CheckedAt (s .formulas) (s .nodes) old)
+        → Held (checkForContradictions (asked setting) s .nodes) len (now (nodes .exit)) × (len ≤ mostIdentifiers → r ≡ checkForContradictions (asked setting) s .proved)) ⌝ }
 {
     if setting.skip {
         return proved;
     }
-    let every = check_for_contradictions(formulas, count, tree, len, old);
+    let every = check_for_contradictions(formulas, count, nodes, len, old);
     if proved {
         return true;
     }
@@ -190,21 +168,14 @@ fn check(
 }
 
 // The state before any step: contradictions are checked once, unless they are skipped.
-pub fn begin(setting: Setting, p: Progress, formulas: &Formulas, tree: &mut Nodes) -> Progress
-    ensures { λ r. ⌜ ((s : State) (ea ra la va oa wa ca : List ℕ) → p .formulas ≤ mostFormulas → Since (s .formulas) (s .nodes) 0
-        → Laid (asked setting) s p (now (formulas .entry)) (now (tree .entry)) ea ra la va oa wa ca
-        → Kept (asked setting) (checkForContradictions (asked setting) s) r (now (formulas .entry)) (now (tree .exit)) ea ra la va oa wa ca) ⌝ }
+pub fn begin(setting: Setting, p: Progress, formulas: &Formulas, nodes: &mut Nodes) -> Progress
+    ensures { λ r. ⌜ ((s : State) (edges necessities leaves waiting classes : List ℕ) → p .formulas ≤ mostFormulas → CheckedAt (s .formulas) (s .nodes) 0
+        → StateLaid (asked setting) s p (record { formulas = now (formulas .entry); nodes = now (nodes .entry); edges = edges; necessities = necessities; leaves = leaves; waiting = waiting; classes = classes })
+        → StateHeld (asked setting) (checkForContradictions (asked setting) s) r (record { formulas = now (formulas .entry); nodes = now (nodes .exit); edges = edges; necessities = necessities; leaves = leaves; waiting = waiting; classes = classes })) ⌝ }
 {
-    let proved = check(setting, p.proved, formulas, p.formulas, tree, p.nodes, 0);
-    Progress {
-        formulas: p.formulas,
-        nodes: p.nodes,
-        worlds: p.worlds,
-        necessities: p.necessities,
-        waiting: p.waiting,
-        steps: p.steps,
-        proved,
-    }
+    let mut checked = p;
+    checked.proved = check(setting, p.proved, formulas, p.formulas, nodes, p.nodes, 0);
+    checked
 }
 
 // One step, where one is due; else the state stays.
@@ -212,72 +183,48 @@ fn step(
     setting: Setting,
     p: Progress,
     formulas: &mut Formulas,
-    tree: &mut Nodes,
+    nodes: &mut Nodes,
     edges: &mut Edges,
-    rows: &mut Necessities,
+    necessities: &mut Necessities,
     leaves: &mut Leaves,
-    visited: &mut Worlds,
-    order: &mut Order,
-    wait: &mut Waiting,
+    waiting: &mut Waiting,
     classes: &mut Classes,
 ) -> Progress
-    ensures { λ r. ⌜ ((k : ℕ) (s : State) → Fit (asked setting) k s → Watch (asked setting) s → AllRooted s
-        → Kept (asked setting) s p (now (formulas .entry)) (now (tree .entry)) (now (edges .entry)) (now (rows .entry)) (now (leaves .entry)) (now (visited .entry)) (now (order .entry)) (now (wait .entry)) (now (classes .entry))
-        → Kept (asked setting) (run 1 (asked setting) s) r (now (formulas .exit)) (now (tree .exit)) (now (edges .exit)) (now (rows .exit)) (now (leaves .exit)) (now (visited .exit)) (now (order .exit)) (now (wait .exit)) (now (classes .exit))) ⌝ }
+    ensures { λ r. ⌜ ((s : State) → Reached (asked setting) s
+        → StateHeld (asked setting) s p (record { formulas = now (formulas .entry); nodes = now (nodes .entry); edges = now (edges .entry); necessities = now (necessities .entry); leaves = now (leaves .entry); waiting = now (waiting .entry); classes = now (classes .entry) })
+        → StateHeld (asked setting) (run 1 (asked setting) s) r (record { formulas = now (formulas .exit); nodes = now (nodes .exit); edges = now (edges .exit); necessities = now (necessities .exit); leaves = now (leaves .exit); waiting = now (waiting .exit); classes = now (classes .exit) })) ⌝ }
 {
     if stops(p) {
         return p;
     }
-    match pop(wait, classes, p.waiting) {
+    match pop(waiting, classes, p.waiting) {
         Popped::None => p,
-        Popped::Node { id, waiting } => {
-            let e = expand(formulas, p.formulas, formula_of(tree, id));
+        Popped::Node {
+            id,
+            waiting: others,
+        } => {
+            let e = expand(formulas, p.formulas, formula_of(nodes, id));
             let rule = e.rule;
-            let sizes = Sizes {
-                nodes: p.nodes,
-                waiting,
-                worlds: p.worlds,
-                necessities: p.necessities,
-            };
-            let a = apply(
+            let mut taken = p;
+            taken.formulas = e.formulas;
+            taken.waiting = others;
+            taken.steps = next_step(p.steps);
+            let mut after = apply(
                 setting,
-                sizes,
+                taken,
                 id,
                 rule,
-                tree,
+                nodes,
                 edges,
-                rows,
+                necessities,
                 leaves,
-                visited,
-                order,
-                wait,
-            );
-            classify(
-                formulas,
-                e.formulas,
-                tree,
-                wait,
-                a.waiting,
-                classes,
                 waiting,
             );
-            Progress {
-                formulas: e.formulas,
-                nodes: a.nodes,
-                worlds: a.worlds,
-                necessities: a.necessities,
-                waiting: a.waiting,
-                steps: next_step(p.steps),
-                proved: check(
-                    setting,
-                    p.proved,
-                    formulas,
-                    e.formulas,
-                    tree,
-                    a.nodes,
-                    p.nodes,
-                ),
-            }
+            let n = after.waiting;
+            classify(formulas, e.formulas, nodes, waiting, n, classes, others);
+            let len = after.nodes;
+            after.proved = check(setting, p.proved, formulas, e.formulas, nodes, len, p.nodes);
+            after
         }
     }
 }
@@ -287,18 +234,16 @@ pub fn prove(
     setting: Setting,
     begun: Progress,
     formulas: &mut Formulas,
-    tree: &mut Nodes,
+    nodes: &mut Nodes,
     edges: &mut Edges,
-    rows: &mut Necessities,
+    necessities: &mut Necessities,
     leaves: &mut Leaves,
-    visited: &mut Worlds,
-    order: &mut Order,
-    wait: &mut Waiting,
+    waiting: &mut Waiting,
     classes: &mut Classes,
 ) -> Progress
-    ensures { λ r. ⌜ ((k : ℕ) (s : State) → Fit (asked setting) k s → Watch (asked setting) s → AllRooted s
-        → Kept (asked setting) s begun (now (formulas .entry)) (now (tree .entry)) (now (edges .entry)) (now (rows .entry)) (now (leaves .entry)) (now (visited .entry)) (now (order .entry)) (now (wait .entry)) (now (classes .entry))
-        → Kept (asked setting) (run enoughSteps (asked setting) s) r (now (formulas .exit)) (now (tree .exit)) (now (edges .exit)) (now (rows .exit)) (now (leaves .exit)) (now (visited .exit)) (now (order .exit)) (now (wait .exit)) (now (classes .exit))) ⌝ }
+    ensures { λ r. ⌜ ((s : State) → Reached (asked setting) s
+        → StateHeld (asked setting) s begun (record { formulas = now (formulas .entry); nodes = now (nodes .entry); edges = now (edges .entry); necessities = now (necessities .entry); leaves = now (leaves .entry); waiting = now (waiting .entry); classes = now (classes .entry) })
+        → StateHeld (asked setting) (run enoughSteps (asked setting) s) r (record { formulas = now (formulas .exit); nodes = now (nodes .exit); edges = now (edges .exit); necessities = now (necessities .exit); leaves = now (leaves .exit); waiting = now (waiting .exit); classes = now (classes .exit) })) ⌝ }
 {
     let mut p = begun;
     let mut n: usize = 0;
@@ -310,13 +255,11 @@ pub fn prove(
             setting,
             p,
             formulas,
-            tree,
+            nodes,
             edges,
-            rows,
+            necessities,
             leaves,
-            visited,
-            order,
-            wait,
+            waiting,
             classes,
         );
         n += 1;

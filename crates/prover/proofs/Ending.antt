@@ -8,6 +8,7 @@ use lib.Dec.{leb}
 use lib.ListN.{length, replicate}
 use borrow.Author.Tests.{lt-ltb, le-ltb}
 use Rattle.definition.specs.Limits.{mostIdentifiers, worldLimit, graphWidth, nodeTrayLength, formulaTrayLength, edgeTrayLength}
+use Rattle.limits.specs.Lent.{Lent}
 use Rattle.definition.specs.RefusalNumbers.{tooManyIdentifiers}
 use Rattle.definition.specs.Lists.{concatMap, padded}
 use Rattle.definition.specs.Setting.{Setting}
@@ -16,34 +17,34 @@ use Rattle.definition.specs.Run.{State}
 use Rattle.definition.specs.Trays.{Trays, nodeBytes, recordBytes, rowNumber, over, traysOf, zeroTrays, laidOver}
 use Rattle.definition.specs.Call.{refusal, verdict, outcomeOfRun, answerOf, traysAfter, late}
 use Rattle.formula.proofs.Recorded.{recorded-fits, recorded-count}
-use Rattle.proof.specs.declared.Progress.{Progress}
-use Rattle.proof.specs.Kept.{Laid, Kept, kept, full}
+use Rattle.logic.specs.declared.Progress.{Progress}
+use Rattle.proof.specs.StateHeld.{StateLaid, StateHeld, kept, full}
 use Rattle.prover.specs.Contract.{trays}
-use Rattle.prover.specs.Parts.{Fits}
+use Rattle.prover.specs.Parts.{EndFits}
 
-module _ {F : Setting} {s : State} {p : Progress} {fa ta ea ra la va oa wa ca : List ℕ} where
-  kept-full : Kept F s p fa ta ea ra la va oa wa ca → mostIdentifiers < p .nodes → Run.full s ≡ true
+module _ {F : Setting} {s : State} {p : Progress} {A : Lent} where
+  kept-full : StateHeld F s p A → mostIdentifiers < p .nodes → Run.full s ≡ true
   unfolding Run.full
   kept-full (kept k) h = absurd (omega (arith, k .room, k .count))
   kept-full (full a b) h = lt-ltb mostIdentifiers (length (s .nodes)) b
 
-  pub kept-laid : Kept F s p fa ta ea ra la va oa wa ca → p .nodes ≤ mostIdentifiers → Laid F s p fa ta ea ra la va oa wa ca
+  pub kept-laid : StateHeld F s p A → p .nodes ≤ mostIdentifiers → StateLaid F s p A
   kept-laid (kept k) h = k
   kept-laid (full a b) h = absurd (omega arith)
 
-  pub laid-ended : Laid F s p fa ta ea ra la va oa wa ca → Run.full s ≡ false
+  pub laid-ended : StateLaid F s p A → Run.full s ≡ false
   unfolding Run.full
   laid-ended l = le-ltb mostIdentifiers (length (s .nodes)) (l .room)
 
   -- full, and the written lengths zeroed
   module _ (lent : Trays) {n f e : List ℕ} where
-    pub ends-full : Kept F s p fa ta ea ra la va oa wa ca → mostIdentifiers < p .nodes → n ≡ over (replicate nodeTrayLength 0) (lent .nodes) → f ≡ over (replicate formulaTrayLength 0) (lent .formulas) → e ≡ over (replicate graphWidth 0) (lent .edges) →
+    pub ends-full : StateHeld F s p A → mostIdentifiers < p .nodes → n ≡ over (replicate nodeTrayLength 0) (lent .nodes) → f ≡ over (replicate formulaTrayLength 0) (lent .formulas) → e ≡ over (replicate graphWidth 0) (lent .edges) →
         (refusal tooManyIdentifiers 0 ≡ answerOf F (outcomeOfRun s)) × (trays n f e ≡ traysAfter (outcomeOfRun s) lent)
     unfolding outcomeOfRun answerOf traysAfter laidOver zeroTrays
     ends-full k h a b c = rw (kept-full k h, a, b, c) (refl, refl)
 
     -- ended: the verdict, and the trays laid out
-    pub ends-laid : Laid F s p fa ta ea ra la va oa wa ca → Fits s → {i j k m : ℕ} →
+    pub ends-laid : StateLaid F s p A → EndFits s → {i j k m : ℕ} →
         n ≡ over (padded nodeTrayLength (concatMap nodeBytes (s .nodes))) (lent .nodes) → f ≡ over (padded formulaTrayLength (concatMap recordBytes (s .formulas))) (lent .formulas) →
         e ≡ over (padded edgeTrayLength (map rowNumber (s .graph .rows))) (lent .edges) →
         (p .nodes ≤ 65535 → i ≡ p .nodes) → (p .formulas ≤ 65535 → j ≡ p .formulas) → (p .worlds ≤ 65535 → k ≡ p .worlds) → (p .steps ≤ 65535 → m ≡ p .steps) →

@@ -4,10 +4,11 @@ use mathlib.Core.Bool.{Bool, true, false, cond}
 use mathlib.Core.List.{List}
 use mathlib.Core.Option.{Option, none, some}
 use mathlib.Core.Logic.{_⊎_, inl, inr}
-use Prim.Native.Nat.{ℕ, suc, _≤_, _<_, _/_}
+use Prim.Native.Nat.{ℕ, _≤_, _<_, _/_}
 use native.Mathlib.Omega.{arith}
 use lib.ListN.{length}
 use Rattle.definition.specs.Limits.{recordLength, mostRecords, mostMarked, worldLimit}
+use Rattle.limits.specs.Lent.{Lent}
 use Rattle.definition.specs.RefusalNumbers.{tooManyIdentifiers}
 use Rattle.definition.specs.Lists.{Each, empty}
 use Rattle.definition.specs.Records.{Rec, Unknown, nobody, made, decode, recAt, marks}
@@ -20,18 +21,17 @@ use Rattle.definition.specs.Checks.{LongEnough, Check, check, refused}
 use Rattle.definition.specs.Call.{Outcome, Refused, Full, Ended, Answer, refusal, outcomeOfRun, outcomeBy, outcome, answerOf, answer, traysAfter, traysLeft, lengthsOf}
 use Rattle.definition.specs.Claim.{Proved}
 use Rattle.definition.specs.Completeness.{Open, InTime}
-use Rattle.definition.proofs.Lists.{each-of, each-any}
-use Rattle.definition.proofs.Edges.{init-one, init-less}
-use Rattle.definition.proofs.Bounds.{bounded-formulas, bounded-steps}
-use Rattle.definition.proofs.Accepted.{Accepted, accepted, length-decode}
-use Rattle.definition.proofs.Calls.{final-bounded, twelve-exactly, twelve-zeroes}
-use Rattle.definition.proofs.Fresh.{Watch, watch-start}
-use Rattle.definition.proofs.Spawned.{AllRooted, rooted-start}
-use Rattle.definition.proofs.Ready.{Fit, fit-start}
-use Rattle.definition.proofs.Sound.{demand-3}
+use Rattle.definition.proofs.Basics.Lists.{each-of, each-any}
+use Rattle.definition.proofs.Soundness.Edges.{init-one, init-less}
+use Rattle.definition.proofs.Call.Bounds.{bounded-formulas, bounded-steps}
+use Rattle.definition.proofs.Run.Accepted.{Accepted, accepted, length-decode}
+use Rattle.definition.proofs.Call.Outcomes.{final-bounded, twelve-exactly, twelve-zeroes}
+use Rattle.definition.specs.Reached.{Reached}
+use Rattle.definition.proofs.Engine.Reached.{reached-start}
+use Rattle.definition.proofs.Soundness.Theorem.{demand-3}
 use Rattle.definition.proofs.Completeness.Whole.{complete, exact}
-use Rattle.proof.specs.declared.Progress.{Progress}
-use Rattle.proof.specs.Kept.{Kept}
+use Rattle.logic.specs.declared.Progress.{Progress}
+use Rattle.proof.specs.StateHeld.{StateHeld}
 use Rattle.prover.specs.Contract.{Contract}
 use Rattle.prover.specs.Said.{worldsOf}
 use Rattle.prover.specs.Parts.{Ends}
@@ -84,24 +84,21 @@ module _ (branch : List ℕ) (flags : ℕ) (lent : Trays) where
     abbrev rs : List Rec
     rs = decode branch
 
-    run-fit : Fit F (length rs) (start F rs)
-    run-fit = fit-start F rs (a .few) (λ i l. a .records i l .links) (a .marked)
+    abbrev MarkFits : Rec → Type 0
+    MarkFits r = r .mark < 256
 
-    abbrev Marked : Rec → Type 0
-    Marked r = r .mark < 256
-
-    marked : Each Marked rs
+    marked : Each MarkFits rs
     unfolding recAt
-    marked = each-of Marked (made Unknown 0 0) rs (λ i l. omega (arith, a .records i l .mark))
+    marked = each-of MarkFits (made Unknown 0 0) rs (λ i l. omega (arith, a .records i l .mark))
 
     run-ends : Ends (final F rs)
     run-ends e =
-        let h = final-bounded branch flags (lengthsOf lent) a e Marked (λ r k. omega (arith, k .mark)) marked in
+        let h = final-bounded branch flags (lengthsOf lent) a e MarkFits (λ r k. omega (arith, k .mark)) marked in
         let b = h .sizes in
         record {
           worlds = each-of (λ (x : Node). x .world < 256) (newNode nobody nobody nobody) (final F rs .nodes) (λ x l. omega (arith, b .labels x l .world, low (b .worlds) (init-less F (final F rs .graph))));
-          steps = bounded-steps Marked (λ r k. omega (arith, k .mark)) F (length rs) (final F rs) h e;
-          formulas = bounded-formulas Marked (λ r k. omega (arith, k .mark)) F (length rs) (final F rs) h (a .few) e;
+          steps = bounded-steps MarkFits (λ r k. omega (arith, k .mark)) F (length rs) (final F rs) h e;
+          formulas = bounded-formulas MarkFits (λ r k. omega (arith, k .mark)) F (length rs) (final F rs) h (a .few) e;
           marks = b .records;
           rows = b .squared .rows;
           columns = b .squared .each;
@@ -113,15 +110,15 @@ module _ (branch : List ℕ) (flags : ℕ) (lent : Trays) where
         low h (inr d) = omega (arith, h, d)
 
     -- begun, run to its end, laid out
-    pub runs : {r : Answer} {left : Trays} {G : Setting} {p q : Progress} {fa ta ea ra la va oa wa ca fb tb eb rb lb vb ob wb cb : List ℕ} → refused branch flags (lengthsOf lent) ≡ none →
+    pub runs : {r : Answer} {left : Trays} {G : Setting} {p q : Progress} {A B : Lent} → refused branch flags (lengthsOf lent) ≡ none →
         G ≡ F →
-        (length branch / recordLength ≤ mostRecords → empty (marks rs) ≡ false → length (marks rs) ≤ mostMarked → Kept G (start G rs) p fa ta ea ra la va oa wa ca) →
-        (Fit G (length rs) (start G rs) → Watch G (start G rs) → AllRooted (start G rs) → Kept G (start G rs) p fa ta ea ra la va oa wa ca → Kept G (run enoughSteps G (start G rs)) q fb tb eb rb lb vb ob wb cb) →
-        (Kept F (final F rs) q fb tb eb rb lb vb ob wb cb → Ends (final F rs) → LongEnough (lengthsOf lent) → (r ≡ answerOf F (outcomeOfRun (final F rs))) × (left ≡ traysAfter (outcomeOfRun (final F rs)) lent)) →
+        (length branch / recordLength ≤ mostRecords → empty (marks rs) ≡ false → length (marks rs) ≤ mostMarked → StateHeld G (start G rs) p A) →
+        (Reached G (start G rs) → StateHeld G (start G rs) p A → StateHeld G (run enoughSteps G (start G rs)) q B) →
+        (StateHeld F (final F rs) q B → Ends (final F rs) → LongEnough (lengthsOf lent) → (r ≡ answerOf F (outcomeOfRun (final F rs))) × (left ≡ traysAfter (outcomeOfRun (final F rs)) lent)) →
         Contract branch flags lent r left
     unfolding final
     runs e l begin go finish =
-        let ran = (rw l at go) run-fit (watch-start F rs (a .marked)) (rooted-start F rs) ((rw l at begin) (omega (arith, length-decode branch, a .few)) (a .marked) (a .fewMarked)) in
+        let ran = (rw l at go) (reached-start branch flags (lengthsOf lent) e) ((rw l at begin) (omega (arith, length-decode branch, a .few)) (a .marked) (a .fewMarked)) in
         let done = finish ran run-ends (a .trays) in
         contract-run _ _ e (done .0) (done .1)
 

@@ -4,7 +4,7 @@ use mathlib.Core.Bool.{Bool, true, false, cond}
 use Prim.Native.Nat.{ℕ, _≤_, _<_, _+_, _*_, _/_, _%_}
 use native.Mathlib.Omega.{arith}
 use lib.Dec.{eqb}
-use Rattle.definition.proofs.Lists.{bit-low}
+use Rattle.definition.proofs.Basics.Lists.{bit-low}
 use Rattle.definition.specs.Call.{refusal, verdict}
 use Rattle.prover.specs.Said.{read}
 

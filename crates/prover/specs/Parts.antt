@@ -11,7 +11,7 @@ use Rattle.definition.specs.Tree.{Node}
 use Rattle.definition.specs.Run.{State, full}
 
 -- a run that is not full ends with numbers that fit their bytes, and a square of edges
-pub record Fits (s : State) : Type 0 where
+pub record EndFits (s : State) : Type 0 where
   pub worlds : Each (λ (x : Node). x .world < 256) (s .nodes)
   pub steps : s .steps ≤ mostIdentifiers
   pub formulas : length (s .formulas) ≤ mostFormulas
@@ -20,4 +20,4 @@ pub record Fits (s : State) : Type 0 where
   pub columns : Each (λ (row : List Bool). length row ≡ s .graph .worlds) (s .graph .rows)
 
 abbrev pub Ends : State → Type 0
-Ends s = full s ≡ false → Fits s
+Ends s = full s ≡ false → EndFits s

@@ -19,7 +19,7 @@ use limits::Nodes;
 use limits::TOO_MANY_IDENTIFIERS;
 use limits::WORLD_LIMIT;
 use limits::Waiting;
-use proof::Progress;
+use logic::Progress;
 use queue::classify;
 use setting::Setting;
 use setting::setting_of;
@@ -28,6 +28,7 @@ use trays::clear_edges;
 use trays::write_edges;
 use trays::write_formulas;
 use trays::write_nodes;
+use tree::NO_NUMBER;
 ghost use mathlib.Core.Path.{_≡_};
 ghost use mathlib.Core.Bool.{false, cond};
 ghost use mathlib.Core.List.{List, []};
@@ -48,7 +49,7 @@ ghost use Rattle.graph.specs.Drawn.{Drawn};
 ghost use Rattle.setting.specs.Asked.{asked};
 ghost use Rattle.tree.specs.Lay.{Held};
 ghost use Rattle.necessities.specs.Stack.{Stack};
-ghost use Rattle.proof.specs.Kept.{Kept};
+ghost use Rattle.proof.specs.StateHeld.{StateHeld};
 ghost use Rattle.prover.specs.Contract.{trays, Contract};
 ghost use Rattle.prover.specs.Said.{said, read, worldsOf};
 ghost use Rattle.prover.specs.Parts.{Ends};
@@ -74,28 +75,28 @@ fn begin(
     branch: &[u8],
     setting: Setting,
     formulas: &mut Formulas,
-    tree: &mut Nodes,
-    wait: &mut Waiting,
+    nodes: &mut Nodes,
+    waiting: &mut Waiting,
     classes: &mut Classes,
 ) -> Progress
-    ensures { λ r. ⌜ ((ea ra la va oa : List ℕ) → length (now (branch .entry)) / recordLength ≤ mostRecords → empty (marks (decode (now (branch .entry)))) ≡ false → length (marks (decode (now (branch .entry)))) ≤ mostMarked
-        → Recorded [] 0 (now (formulas .entry)) → Held [] 0 (now (tree .entry)) → Listed [] 0 (now (wait .entry)) → Listed [] 0 (now (classes .entry)) → Drawn emptyGraph 0 ea → Stack [] 0 oa ra la va
-        → Kept (asked setting) (start (asked setting) (decode (now (branch .entry)))) r (now (formulas .exit)) (now (tree .exit)) ea ra la va oa (now (wait .exit)) (now (classes .exit))) ⌝ }
+    ensures { λ r. ⌜ ((edges necessities leaves : List ℕ) → length (now (branch .entry)) / recordLength ≤ mostRecords → empty (marks (decode (now (branch .entry)))) ≡ false → length (marks (decode (now (branch .entry)))) ≤ mostMarked
+        → Recorded [] 0 (now (formulas .entry)) → Held [] 0 (now (nodes .entry)) → Listed [] 0 (now (waiting .entry)) → Listed [] 0 (now (classes .entry)) → Drawn emptyGraph 0 edges → Stack [] 0 necessities leaves
+        → StateHeld (asked setting) (start (asked setting) (decode (now (branch .entry)))) r (record { formulas = now (formulas .exit); nodes = now (nodes .exit); edges = edges; necessities = necessities; leaves = leaves; waiting = now (waiting .exit); classes = now (classes .exit) })) ⌝ }
 {
     let count = read_records(branch, formulas);
-    let len = begin_tree(formulas, count, tree);
-    let waiting = begin_queue(tree, len, wait);
-    classify(formulas, count, tree, wait, waiting, classes, 0);
+    let len = begin_tree(formulas, count, nodes);
+    let queued = begin_queue(nodes, len, waiting);
+    classify(formulas, count, nodes, waiting, queued, classes, 0);
     let p = Progress {
         formulas: count,
         nodes: len,
         worlds: 0,
         necessities: 0,
-        waiting,
+        waiting: queued,
         steps: 0,
         proved: false,
     };
-    proof::begin(setting, p, formulas, tree)
+    proof::begin(setting, p, formulas, nodes)
 }
 
 // A count as the answer has it: none is above 65,535.
@@ -111,30 +112,31 @@ fn narrow(n: usize) -> u16
 // The answer of a run that has stopped, and its trays.
 fn finish(
     p: Progress,
-    table: &Formulas,
-    tree: &Nodes,
-    graph: &Edges,
-    nodes: &mut [u8],
-    formulas: &mut [u8],
-    edges: &mut [u32],
+    formulas: &Formulas,
+    nodes: &Nodes,
+    edges: &Edges,
+    node_tray: &mut [u8],
+    formula_tray: &mut [u8],
+    edge_tray: &mut [u32],
 ) -> Answer
-    ensures { λ r. ⌜ ((F : D.Setting) (s : State) (ra la va oa wa ca : List ℕ) → Kept F s p (now (table .entry)) (now (tree .entry)) (now (graph .entry)) ra la va oa wa ca → Ends s
-        → LongEnough (lengthsOf (trays (now (nodes .entry)) (now (formulas .entry)) (now (edges .entry))))
+    ensures { λ r. ⌜ ((F : D.Setting) (s : State) (necessities leaves waiting classes : List ℕ)
+        → StateHeld F s p (record { formulas = now (formulas .entry); nodes = now (nodes .entry); edges = now (edges .entry); necessities = necessities; leaves = leaves; waiting = waiting; classes = classes }) → Ends s
+        → LongEnough (lengthsOf (trays (now («node_tray» .entry)) (now («formula_tray» .entry)) (now («edge_tray» .entry))))
         → (said r ≡ answerOf F (outcomeOfRun s))
-        × (trays (now (nodes .exit)) (now (formulas .exit)) (now (edges .exit)) ≡ traysAfter (outcomeOfRun s) (trays (now (nodes .entry)) (now (formulas .entry)) (now (edges .entry))))) ⌝ }
+        × (trays (now («node_tray» .exit)) (now («formula_tray» .exit)) (now («edge_tray» .exit)) ≡ traysAfter (outcomeOfRun s) (trays (now («node_tray» .entry)) (now («formula_tray» .entry)) (now («edge_tray» .entry))))) ⌝ }
 {
     if MOST_IDENTIFIERS < p.nodes {
-        clear(nodes, NODE_TRAY_LENGTH);
-        clear(formulas, FORMULA_TRAY_LENGTH);
-        clear_edges(edges);
+        clear(node_tray, NODE_TRAY_LENGTH);
+        clear(formula_tray, FORMULA_TRAY_LENGTH);
+        clear_edges(edge_tray);
         return Answer::Refusal {
             number: TOO_MANY_IDENTIFIERS,
             place: 0,
         };
     }
-    write_nodes(nodes, tree, p.nodes);
-    write_formulas(formulas, table, p.formulas);
-    write_edges(edges, graph, p.worlds);
+    write_nodes(node_tray, nodes, p.nodes);
+    write_formulas(formula_tray, formulas, p.formulas);
+    write_edges(edge_tray, edges, p.worlds);
     Answer::Verdict {
         proved: p.proved,
         late: WORLD_LIMIT <= p.worlds,
@@ -146,57 +148,73 @@ fn finish(
 }
 
 // The run of an accepted branch.
-fn run(branch: &[u8], flags: u8, nodes: &mut [u8], formulas: &mut [u8], edges: &mut [u32]) -> Answer
-    ensures { λ r. ⌜ (refused (now (branch .entry)) flags (lengthsOf (trays (now (nodes .entry)) (now (formulas .entry)) (now (edges .entry)))) ≡ none
-        → Contract (now (branch .entry)) flags (trays (now (nodes .entry)) (now (formulas .entry)) (now (edges .entry))) (said r) (trays (now (nodes .exit)) (now (formulas .exit)) (now (edges .exit)))) ⌝ }
+fn run(
+    branch: &[u8],
+    flags: u8,
+    node_tray: &mut [u8],
+    formula_tray: &mut [u8],
+    edge_tray: &mut [u32],
+) -> Answer
+    ensures { λ r. ⌜ (refused (now (branch .entry)) flags (lengthsOf (trays (now («node_tray» .entry)) (now («formula_tray» .entry)) (now («edge_tray» .entry)))) ≡ none
+        → Contract (now (branch .entry)) flags (trays (now («node_tray» .entry)) (now («formula_tray» .entry)) (now («edge_tray» .entry))) (said r) (trays (now («node_tray» .exit)) (now («formula_tray» .exit)) (now («edge_tray» .exit)))) ⌝ }
 {
-    let mut table = [0u16; FORMULA_CELLS];
-    let mut tree = [65535u16; NODE_CELLS];
-    let mut graph = [0u8; EDGE_CELLS];
-    let mut rows = [0u16; NECESSITY_CELLS];
+    let mut formulas = [0u16; FORMULA_CELLS];
+    let mut nodes = [NO_NUMBER; NODE_CELLS];
+    let mut edges = [0u8; EDGE_CELLS];
+    let mut necessities = [0u32; NECESSITY_CELLS];
     let mut leaves = [0u32; LEAF_WORDS];
-    let mut visited = [0u32; MOST_IDENTIFIERS];
-    let mut order = [0u16; MOST_IDENTIFIERS];
-    let mut wait = [0u16; MOST_IDENTIFIERS];
+    let mut waiting = [0u16; MOST_IDENTIFIERS];
     let mut classes = [0u16; MOST_IDENTIFIERS];
     let setting = setting_of(flags);
     let begun = begin(
         branch,
         setting,
-        &mut table,
-        &mut tree,
-        &mut wait,
+        &mut formulas,
+        &mut nodes,
+        &mut waiting,
         &mut classes,
     );
     let p = proof::prove(
         setting,
         begun,
-        &mut table,
-        &mut tree,
-        &mut graph,
-        &mut rows,
+        &mut formulas,
+        &mut nodes,
+        &mut edges,
+        &mut necessities,
         &mut leaves,
-        &mut visited,
-        &mut order,
-        &mut wait,
+        &mut waiting,
         &mut classes,
     );
-    finish(p, &table, &tree, &graph, nodes, formulas, edges)
+    finish(
+        p,
+        &formulas,
+        &nodes,
+        &edges,
+        node_tray,
+        formula_tray,
+        edge_tray,
+    )
 }
 
 // The call. Nothing is written before the run has ended.
 pub fn prove(
     branch: &[u8],
     flags: u8,
-    nodes: &mut [u8],
-    formulas: &mut [u8],
-    edges: &mut [u32],
+    node_tray: &mut [u8],
+    formula_tray: &mut [u8],
+    edge_tray: &mut [u32],
 ) -> Answer
-    ensures { λ r. ⌜ Contract (now (branch .entry)) flags (trays (now (nodes .entry)) (now (formulas .entry)) (now (edges .entry))) (said r) (trays (now (nodes .exit)) (now (formulas .exit)) (now (edges .exit))) ⌝ }
+    ensures { λ r. ⌜ Contract (now (branch .entry)) flags (trays (now («node_tray» .entry)) (now («formula_tray» .entry)) (now («edge_tray» .entry))) (said r) (trays (now («node_tray» .exit)) (now («formula_tray» .exit)) (now («edge_tray» .exit))) ⌝ }
 {
-    match check(branch, flags, nodes.len(), formulas.len(), edges.len()) {
+    match check(
+        branch,
+        flags,
+        node_tray.len(),
+        formula_tray.len(),
+        edge_tray.len(),
+    ) {
         Checked::Refused { number, place } => Answer::Refusal { number, place },
-        Checked::Accepted => run(branch, flags, nodes, formulas, edges),
+        Checked::Accepted => run(branch, flags, node_tray, formula_tray, edge_tray),
     }
 }
 
@@ -242,12 +260,12 @@ fn word(x: Answer) -> u64
 pub extern "C" fn wozhnerk_prove(
     branch: &[u8],
     flags: u8,
-    nodes: &mut [u8],
-    formulas: &mut [u8],
-    edges: &mut [u32],
+    node_tray: &mut [u8],
+    formula_tray: &mut [u8],
+    edge_tray: &mut [u32],
 ) -> u64
-    ensures { λ r. ⌜ Contract (now (branch .entry)) flags (trays (now (nodes .entry)) (now (formulas .entry)) (now (edges .entry))) (read r) (trays (now (nodes .exit)) (now (formulas .exit)) (now (edges .exit))) ⌝ }
+    ensures { λ r. ⌜ Contract (now (branch .entry)) flags (trays (now («node_tray» .entry)) (now («formula_tray» .entry)) (now («edge_tray» .entry))) (read r) (trays (now («node_tray» .exit)) (now («formula_tray» .exit)) (now («edge_tray» .exit))) ⌝ }
 {
-    let x = prove(branch, flags, nodes, formulas, edges);
+    let x = prove(branch, flags, node_tray, formula_tray, edge_tray);
     word(x)
 }

@@ -20,8 +20,8 @@ use Rattle.definition.specs.Records.{Rec}
 use Rattle.definition.specs.Tree.{Node}
 use Rattle.definition.specs.Setting.{Setting}
 use Rattle.definition.specs.Queue as D
-use Rattle.definition.proofs.Lists.{from-get}
-use Rattle.definition.proofs.Issued.{length-from}
+use Rattle.definition.proofs.Basics.Lists.{from-get}
+use Rattle.definition.proofs.Basics.Identifiers.{length-from}
 use Rattle.queue.specs.declared.Popped.{Popped}
 use Rattle.queue.specs.declared.Popped.the-variants as P
 use Rattle.queue.specs.Taking.{takenAt, answer, afterwards}

@@ -8,7 +8,7 @@ use Rattle.definition.specs.Limits.{mostIdentifiers}
 use Rattle.definition.specs.Tree.{Node, newNode, nodeAt}
 use Rattle.definition.specs.Subtree.{Subtree, withMiddle, withLeftRight, flat, turned, numbered}
 use Rattle.tree.specs.Chain.{chainOf, emptyChain}
-use Rattle.tree.specs.Lay.{lay, Held, held, tooMany}
+use Rattle.tree.specs.Lay.{Lays, Held, held, tooMany}
 use Rattle.tree.specs.Sequence.{idAt}
 use Rattle.tree.proofs.Sequence.{id-fits}
 use Rattle.tree.proofs.Nodes.{held-ok, held-fits, held-as}
@@ -29,8 +29,8 @@ over ns xs ys h (tooMany g e) = tooMany g (omega (arith, length-append ns ys))
 
 -- the world is read off the nodes; where they were too many, it does not matter
 pub here-world : {ns : List Node} {n : ℕ} {a b : List ℕ} {r : AppliedHere} (x v : ℕ) (fs : Subtree) → Held ns n a →
-    ((ms : List Node) → length ms ≤ mostIdentifiers → a ≡ lay ms → v ≡ nodeAt ms x .world) → Here ns x v fs r b → Here ns x (nodeAt ns x .world) fs r b
-here-world {ns} {n} {a} {b} {r} x v fs (held h e q) f p = subst (λ (w : ℕ). Here ns x w fs r b) (f ns (omega arith) q) p
+    ((ms : List Node) → Lays ms a → v ≡ nodeAt ms x .world) → Here ns x v fs r b → Here ns x (nodeAt ns x .world) fs r b
+here-world {ns} {n} {a} {b} {r} x v fs (held h e q) f p = subst (λ (w : ℕ). Here ns x w fs r b) (f ns (record { fits = omega arith; laid = q })) p
 here-world {ns} {n} {a} {b} {r} x v fs (tooMany h e) f p =
     record {
       nodes = over ns _ _ e (p .nodes);

@@ -1,3 +1,3 @@
 pub mod Choice
-pub mod Made
+pub mod RecordsMade
 pub mod Here

@@ -7,7 +7,7 @@ use Rattle.definition.specs.Limits.{mostIdentifiers}
 use Rattle.definition.specs.Rules.{Rule, nothing, down, split, asPossible, asNecessary}
 use Rattle.definition.specs.Tree.{Node, newNode}
 use Rattle.definition.specs.Subtree.{Subtree, withMiddle, withLeftRight, flat, turned, numbered}
-use Rattle.tree.specs.Chain.{chainOf, fallingChain, emptyChain, Below}
+use Rattle.tree.specs.Chain.{chainOf, fallingChain, emptyChain, ChainBelow}
 use Rattle.tree.specs.Lay.{Held}
 use Rattle.rules.specs.declared.AppliedHere.{AppliedHere}
 
@@ -39,4 +39,4 @@ pub record Here (ns : List Node) (x w : ℕ) (fs : Subtree) (r : AppliedHere) (a
   pub nodes : Held (withNodes ns x w fs) (r .nodes) a
   pub chains : length (withNodes ns x w fs) ≤ mostIdentifiers → subtreeOf r ≡ turned (numbered (length ns) fs)
   pub below : length (withNodes ns x w fs) ≤ mostIdentifiers →
-      (Below (r .left) (length (withNodes ns x w fs)) × Below (r .middle) (length (withNodes ns x w fs))) × Below (r .right) (length (withNodes ns x w fs))
+      (ChainBelow (r .left) (length (withNodes ns x w fs)) × ChainBelow (r .middle) (length (withNodes ns x w fs))) × ChainBelow (r .right) (length (withNodes ns x w fs))

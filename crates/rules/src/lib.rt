@@ -1,5 +1,4 @@
 // The rule of a formula: which it is, the records that it makes, and the nodes at the formula's own world.
-// Of a call whose arrays lay out nothing of the kind that its contract names: it ends and stays in bounds; its outcome is free.
 use formula::FormulaNumber;
 use graph::PossibleWorld;
 use limits::Formulas;
@@ -355,62 +354,62 @@ fn with_left_right_nodes(
 
 // A node and the one below it, which gets its identifier first: that identifier, and the count after both.
 fn new_node_with_subnode(
-    tree: &mut Nodes,
+    nodes: &mut Nodes,
     len: usize,
     x: ProofTreeNodeID,
     w: PossibleWorld,
     formula: FormulaNumber,
     child: FormulaNumber,
 ) -> Issued
-    ensures { λ r. ⌜ (r .id .0 ≡ idAt len) × ((ns : List Node) → Held ns len (now (tree .entry)) → Held (ns ++ (newNode (x .0) (child .0) (w .0) ∷ newNode (x .0) (formula .0) (w .0) ∷ [])) (r .len) (now (tree .exit))) ⌝ }
+    ensures { λ r. ⌜ (r .id .0 ≡ idAt len) × ((ns : List Node) → Held ns len (now (nodes .entry)) → Held (ns ++ (newNode (x .0) (child .0) (w .0) ∷ newNode (x .0) (formula .0) (w .0) ∷ [])) (r .len) (now (nodes .exit))) ⌝ }
 {
-    let below = tree::new_node(tree, len, x, child, w);
-    let above = tree::new_node(tree, below.len, x, formula, w);
+    let below = tree::new_node(nodes, len, x, child, w);
+    let above = tree::new_node(nodes, below.len, x, formula, w);
     let id = below.id;
     Issued { id, len: above.len }
 }
 
 fn down_one(
-    tree: &mut Nodes,
+    nodes: &mut Nodes,
     len: usize,
     x: ProofTreeNodeID,
     w: PossibleWorld,
     p: FormulaNumber,
 ) -> AppliedHere
-    ensures { λ r. ⌜ ((ns : List Node) → Held ns len (now (tree .entry)) → Here ns (x .0) (w .0) (withMiddle (p .0 ∷ [])) r (now (tree .exit))) ⌝ }
+    ensures { λ r. ⌜ ((ns : List Node) → Held ns len (now (nodes .entry)) → Here ns (x .0) (w .0) (withMiddle (p .0 ∷ [])) r (now (nodes .exit))) ⌝ }
 {
-    let drawn = tree::new_node(tree, len, x, p, w);
+    let drawn = tree::new_node(nodes, len, x, p, w);
     let id = drawn.id;
     with_middle_node(drawn.len, id, 1)
 }
 
 fn down_two(
-    tree: &mut Nodes,
+    nodes: &mut Nodes,
     len: usize,
     x: ProofTreeNodeID,
     w: PossibleWorld,
     p: FormulaNumber,
     q: FormulaNumber,
 ) -> AppliedHere
-    ensures { λ r. ⌜ ((ns : List Node) → Held ns len (now (tree .entry)) → Here ns (x .0) (w .0) (withMiddle (p .0 ∷ q .0 ∷ [])) r (now (tree .exit))) ⌝ }
+    ensures { λ r. ⌜ ((ns : List Node) → Held ns len (now (nodes .entry)) → Here ns (x .0) (w .0) (withMiddle (p .0 ∷ q .0 ∷ [])) r (now (nodes .exit))) ⌝ }
 {
-    let drawn = new_node_with_subnode(tree, len, x, w, p, q);
+    let drawn = new_node_with_subnode(nodes, len, x, w, p, q);
     let id = drawn.id;
     with_middle_node(drawn.len, id, 2)
 }
 
 fn split_one(
-    tree: &mut Nodes,
+    nodes: &mut Nodes,
     len: usize,
     x: ProofTreeNodeID,
     w: PossibleWorld,
     p: FormulaNumber,
     q: FormulaNumber,
 ) -> AppliedHere
-    ensures { λ r. ⌜ ((ns : List Node) → Held ns len (now (tree .entry)) → Here ns (x .0) (w .0) (withLeftRight (p .0 ∷ []) (q .0 ∷ [])) r (now (tree .exit))) ⌝ }
+    ensures { λ r. ⌜ ((ns : List Node) → Held ns len (now (nodes .entry)) → Here ns (x .0) (w .0) (withLeftRight (p .0 ∷ []) (q .0 ∷ [])) r (now (nodes .exit))) ⌝ }
 {
-    let left = tree::new_node(tree, len, x, p, w);
-    let right = tree::new_node(tree, left.len, x, q, w);
+    let left = tree::new_node(nodes, len, x, p, w);
+    let right = tree::new_node(nodes, left.len, x, q, w);
     let start = left.id;
     let further = right.id;
     with_left_right_nodes(right.len, start, further, 1)
@@ -418,7 +417,7 @@ fn split_one(
 
 // The left chain is p above q, the right one s above t.
 fn split_two(
-    tree: &mut Nodes,
+    nodes: &mut Nodes,
     len: usize,
     x: ProofTreeNodeID,
     w: PossibleWorld,
@@ -427,10 +426,10 @@ fn split_two(
     s: FormulaNumber,
     t: FormulaNumber,
 ) -> AppliedHere
-    ensures { λ r. ⌜ ((ns : List Node) → Held ns len (now (tree .entry)) → Here ns (x .0) (w .0) (withLeftRight (p .0 ∷ q .0 ∷ []) (s .0 ∷ t .0 ∷ [])) r (now (tree .exit))) ⌝ }
+    ensures { λ r. ⌜ ((ns : List Node) → Held ns len (now (nodes .entry)) → Here ns (x .0) (w .0) (withLeftRight (p .0 ∷ q .0 ∷ []) (s .0 ∷ t .0 ∷ [])) r (now (nodes .exit))) ⌝ }
 {
-    let left = new_node_with_subnode(tree, len, x, w, p, q);
-    let right = new_node_with_subnode(tree, left.len, x, w, s, t);
+    let left = new_node_with_subnode(nodes, len, x, w, p, q);
+    let right = new_node_with_subnode(nodes, left.len, x, w, s, t);
     let start = left.id;
     let further = right.id;
     with_left_right_nodes(right.len, start, further, 2)
@@ -438,20 +437,20 @@ fn split_two(
 
 // The nodes of a rule at the world of node x; none for a rule of the two modal kinds.
 pub fn apply_here(
-    tree: &mut Nodes,
+    nodes: &mut Nodes,
     len: usize,
     x: ProofTreeNodeID,
     rule: Consequence,
 ) -> AppliedHere
-    ensures { λ r. ⌜ ((ns : List Node) → Held ns len (now (tree .entry)) → Here ns (x .0) (nodeAt ns (x .0) .world) (hereOf (consequenceOf rule)) r (now (tree .exit))) ⌝ }
+    ensures { λ r. ⌜ ((ns : List Node) → Held ns len (now (nodes .entry)) → Here ns (x .0) (nodeAt ns (x .0) .world) (hereOf (consequenceOf rule)) r (now (nodes .exit))) ⌝ }
 {
-    let w = tree::world_of(tree, x);
+    let w = tree::world_of(nodes, x);
     match rule {
         Consequence::Nothing => without_node(len),
-        Consequence::Down1(p) => down_one(tree, len, x, w, p),
-        Consequence::Down2(p, q) => down_two(tree, len, x, w, p, q),
-        Consequence::Split1(p, q) => split_one(tree, len, x, w, p, q),
-        Consequence::Split2(p, q, s, t) => split_two(tree, len, x, w, p, q, s, t),
+        Consequence::Down1(p) => down_one(nodes, len, x, w, p),
+        Consequence::Down2(p, q) => down_two(nodes, len, x, w, p, q),
+        Consequence::Split1(p, q) => split_one(nodes, len, x, w, p, q),
+        Consequence::Split2(p, q, s, t) => split_two(nodes, len, x, w, p, q, s, t),
         Consequence::AsPossible(_) => without_node(len),
         Consequence::AsNecessary(_) => without_node(len),
     }

@@ -7,7 +7,7 @@ use lib.Dec.{eqb}
 use borrow.Author.Tests.{eq-eqb, ne-eqb}
 use Rattle.definition.specs.Limits.{mostFormulas}
 use Rattle.definition.specs.Lists.{empty}
-use Rattle.definition.proofs.Lists.{true-false}
+use Rattle.definition.proofs.Basics.Lists.{true-false}
 use Rattle.definition.specs.Records.{Rec, numberOf, recAt, formulaOf}
 use Rattle.definition.specs.Contradiction.{both, atomOf, atomsOf, said, denied, opposed, areFormulasContradictory}
 use Rattle.formula.specs.Recorded.{Recorded}

@@ -1,5 +1,4 @@
 // Which formulas contradict one another: binary_logic_semantics.rs.
-// Of a call whose arrays lay out nothing of the kind that its contract names: it ends and stays in bounds; its outcome is free.
 use formula::FormulaNumber;
 use formula::kind_at;
 use formula::left_at;

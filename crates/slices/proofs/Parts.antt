@@ -7,7 +7,7 @@ use native.Mathlib.Numerals.{add-one}
 use lib.ListN.{length, getD, drop, drop-of-length-le}
 use lib.Seq.{drop-cons}
 use Rattle.definition.specs.Lists.{concatMap}
-use Rattle.definition.proofs.TraysKept.{length-parts}
+use Rattle.definition.proofs.Call.Trays.{length-parts}
 use Rattle.slices.specs.Written.{Written, Puts}
 use Rattle.slices.proofs.Writing.{Writing, written-none, writing-start, writing-next, writing-end}
 

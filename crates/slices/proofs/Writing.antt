@@ -9,7 +9,7 @@ use lib.ListN.{length, getD, set, take, drop, replicate, length-append, length-t
 use lib.Seq.{drop-cons, set-at, append-snoc}
 use Rattle.definition.specs.Lists.{padded}
 use Rattle.definition.specs.Trays.{two, over}
-use Rattle.definition.proofs.Lists.{length-padded}
+use Rattle.definition.proofs.Basics.Lists.{length-padded}
 use Rattle.slices.specs.Written.{Written, Puts}
 
 -- the low byte of a number below 256

@@ -16,8 +16,8 @@ use Rattle.definition.specs.Call.{answerOf}
 use Rattle.definition.specs.Claim.{Proved}
 use Rattle.definition.specs.Cases.{bytes, deadEnd}
 use Rattle.definition.specs.Refusals.{exactly}
-use Rattle.definition.proofs.Lists.{true-false}
-use Rattle.definition.proofs.Computed.{computed, same-answer}
+use Rattle.definition.proofs.Basics.Lists.{true-false}
+use Rattle.definition.proofs.Call.Cases.{computed, same-answer}
 use Rattle.soundness.specs.Claims.{ModelsExist, DeadEnd}
 
 -- one world that reaches itself

@@ -22,26 +22,27 @@ use Rattle.definition.specs.Trays.{rowNumber, traysOf}
 use Rattle.definition.specs.Fits.{RecordFits, Sized}
 use Rattle.definition.specs.Claim.{Demand3}
 use Rattle.definition.specs.Completeness.{Complete, ExactInTime}
-use Rattle.definition.proofs.Lists.{or-cases, each-map}
-use Rattle.definition.proofs.Nodes.{ext-result}
-use Rattle.definition.proofs.Priest.{rule-is-priest}
-use Rattle.definition.proofs.Edges.{init-one, init-less}
-use Rattle.definition.proofs.Exact
-use Rattle.definition.proofs.Treed
-use Rattle.definition.proofs.Treed.{Treed, placed}
-use Rattle.definition.proofs.Linking.{bare-room}
-use Rattle.definition.proofs.Growing.{reached-treed, reached-between}
-use Rattle.definition.proofs.Accepted.{Accepted, accepted}
-use Rattle.definition.proofs.Bounds
-use Rattle.definition.proofs.Fields
-use Rattle.definition.proofs.Calls
-use Rattle.definition.proofs.Sound
+use Rattle.definition.proofs.Basics.Lists.{or-cases, each-map}
+use Rattle.definition.proofs.Tree.Nodes.{ext-result}
+use Rattle.definition.proofs.Soundness.Priest.{rule-is-priest}
+use Rattle.definition.proofs.Soundness.Edges.{init-one, init-less}
+use Rattle.definition.proofs.Run.Fullness
+use Rattle.definition.proofs.Tree.Shape
+use Rattle.definition.specs.TreeShape.{Spot, Treed, placed}
+use Rattle.definition.proofs.Tree.Linking.{bare-room}
+use Rattle.definition.proofs.Run.TreeKept.{reached-treed, reached-between}
+use Rattle.definition.proofs.Run.Accepted.{Accepted, accepted}
+use Rattle.definition.proofs.Call.Bounds
+use Rattle.definition.proofs.Call.Fields
+use Rattle.definition.proofs.Call.Outcomes
+use Rattle.definition.proofs.Run.Stepping.{not-full}
+use Rattle.definition.proofs.Soundness.Theorem
 use Rattle.definition.proofs.Completeness.Whole
 use Rattle.definition.proofs.Completeness.Plain
-use Rattle.soundness.specs.Claims.{RulesArePriests, Stops, StaysStopped, FullExactly, NotFullExactly, TwelveExactly, TwelveZeroes, QueueCounts, StepsGrow, PartsGrow, IsTree, TreesOfRun, TreesOfStep, Fits, RunsFit, TraysKeep, TraysSized, RefusalsWriteNothing, Decides, HasAssignment}
+use Rattle.soundness.specs.Claims.{RulesArePriests, Stops, StaysStopped, FullExactly, NotFullExactly, TwelveExactly, TwelveZeroes, QueueCounts, StepsGrow, PartsGrow, IsTree, TreesOfRun, TreesOfStep, StateFits, RunsFit, TraysKeep, TraysSized, RefusalsWriteNothing, Decides, HasAssignment}
 
 pub demand-3 : Demand3
-demand-3 = Sound.demand-3
+demand-3 = Theorem.demand-3
 
 pub complete : Complete
 complete = Whole.complete
@@ -56,11 +57,11 @@ pub has-assignment : HasAssignment
 has-assignment = Plain.has-assignment
 
 pub rules-are-priests : RulesArePriests
-rules-are-priests branch flags lent e n = rule-is-priest _ (Calls.run-linked branch flags lent (accepted branch flags lent e) n)
+rules-are-priests branch flags lent e n = rule-is-priest _ (Outcomes.run-linked branch flags lent (accepted branch flags lent e) n)
 
 pub run-stops : Stops
 unfolding stops ended full
-run-stops F rs = go (or-cases (ended F z) (full z) (Exact.final-stops F rs))
+run-stops F rs = go (or-cases (ended F z) (full z) (Fullness.final-stops F rs))
   where
     z : State
     z = final F rs
@@ -80,28 +81,28 @@ run-stops F rs = go (or-cases (ended F z) (full z) (Exact.final-stops F rs))
         first (inr e) = inr (second (or-cases (empty (z .waiting)) _ e))
 
 pub stays-stopped : StaysStopped
-stays-stopped = Exact.final-more
+stays-stopped = Fullness.final-more
 
 pub full-exactly : FullExactly
-full-exactly = Exact.full-exactly
+full-exactly = Fullness.full-exactly
 
 pub not-full-exactly : NotFullExactly
-not-full-exactly = Exact.not-full-exact
+not-full-exactly = Fullness.not-full-exact
 
 pub twelve-exactly : TwelveExactly
-twelve-exactly = Calls.twelve-exactly
+twelve-exactly = Outcomes.twelve-exactly
 
 pub twelve-zeroes : TwelveZeroes
-twelve-zeroes = Calls.twelve-zeroes
+twelve-zeroes = Outcomes.twelve-zeroes
 
 pub queue-counts : QueueCounts
-queue-counts = Exact.run-counted
+queue-counts = Fullness.run-counted
 
 pub steps-grow : StepsGrow
-steps-grow = Exact.step-grows
+steps-grow = Fullness.step-grows
 
 pub parts-grow : PartsGrow
-parts-grow before after t q = (ext-result before t q .longer, Exact.part-grows before after t q)
+parts-grow before after t q = (ext-result before t q .longer, Fullness.part-grows before after t q)
 
 placed-in : (p : Place) → p ≢ Unplaced → placed p ≡ true
 unfolding placed
@@ -126,10 +127,10 @@ is-tree t r =
       deeper = λ x h n. r .above x (placed-in (nodeAt t x .place) h) n .deeper;
       loose = λ x h.
           let k = r .loose x (rw h placed-out) in
-          (ap (λ (s : Treed.Spot). s .parent) k, λ p. ap (λ (s : Treed.Spot). childAt p (s .children)) k ∙ bare-room p childless refl);
-      distinct = Treed.leaves-distinct t r;
-      few = Treed.leaves-few t r;
-      unbounded = Treed.treed-unbounded t r;
+          (ap (λ (s : Spot). s .parent) k, λ p. ap (λ (s : Spot). childAt p (s .children)) k ∙ bare-room p childless refl);
+      distinct = Shape.leaves-distinct t r;
+      few = Shape.leaves-few t r;
+      unbounded = Shape.treed-unbounded t r;
     }
 
 pub trees-of-run : TreesOfRun
@@ -149,13 +150,13 @@ module _ (branch : List ℕ) (flags : ℕ) (lent : Lengths) (a : Accepted branch
   abbrev z : State
   z = final (settingOf flags) (decode branch)
 
-  final-fits : Each RecordFits rs → Fits z
+  final-fits : Each RecordFits rs → StateFits z
   final-fits fit =
-      let h = Calls.final-bounded branch flags lent a e RecordFits (λ r k. k) fit in
+      let h = Outcomes.final-bounded branch flags lent a e RecordFits (λ r k. k) fit in
       let b = h .sizes in
-      let t = Calls.final-numbered branch flags lent a e in
+      let t = Outcomes.final-numbered branch flags lent a e in
       record {
-        identifiers = Sound.not-full z e;
+        identifiers = not-full z e;
         steps = Bounds.bounded-steps RecordFits (λ r k. k) F (length rs) z h e;
         formulas = Bounds.bounded-formulas RecordFits (λ r k. k) F (length rs) z h (a .few) e;
         worlds = b .worlds;
@@ -177,20 +178,20 @@ module _ (branch : List ℕ) (flags : ℕ) (lent : Lengths) (a : Accepted branch
       worlds-low h (inr d) = omega (arith, h, d)
 
       row-fits : (row : List Bool) → length row ≤ graphWidth → rowNumber row < 2 ^ graphWidth
-      row-fits row h = lt-of-lt-of-le (Calls.row-low row) (pow-mono h)
+      row-fits row h = lt-of-lt-of-le (Outcomes.row-low row) (pow-mono h)
 
 pub runs-fit : RunsFit
 runs-fit branch flags lent s bytes d =
-    let k = Calls.ended-of branch flags lent s d in
-    subst Fits (k .2) (final-fits branch flags lent (k .0) (k .1) (Calls.records-fit branch flags lent bytes (k .0)))
+    let k = Outcomes.ended-of branch flags lent s d in
+    subst StateFits (k .2) (final-fits branch flags lent (k .0) (k .1) (Outcomes.records-fit branch flags lent bytes (k .0)))
 
 pub trays-keep : TraysKeep
-trays-keep = Calls.trays-kept
+trays-keep = Outcomes.trays-kept
 
 pub trays-sized : TraysSized
 trays-sized branch flags lent s d =
-    let k = Calls.ended-of branch flags lent s d in
-    subst (λ (v : State). Sized (traysOf v)) (k .2) (Calls.final-sized branch flags lent (k .0) (k .1))
+    let k = Outcomes.ended-of branch flags lent s d in
+    subst (λ (v : State). Sized (traysOf v)) (k .2) (Outcomes.final-sized branch flags lent (k .0) (k .1))
 
 pub refusals-write-nothing : RefusalsWriteNothing
-refusals-write-nothing = Calls.refused-keeps
+refusals-write-nothing = Outcomes.refused-keeps

@@ -20,7 +20,7 @@ use Rattle.definition.specs.Rules.{expansion, writtenRule, priest}
 use Rattle.definition.specs.Subtree.{Targeted, appendLogicRuleResult}
 use Rattle.definition.specs.Run.{State, apply, step, full, run, unlimitedRun, start, Passes, final}
 use Rattle.definition.specs.Trays.{Trays, rowNumber, traysOf, zeroTrays, laidOver}
-use Rattle.definition.specs.Fits.{Number, RecordFits, Sized, Kept}
+use Rattle.definition.specs.Fits.{Number, RecordFits, Sized, TraysKept}
 use Rattle.definition.specs.Call.{Refused, Ended, outcome, Verdict, verdict, refusal, answer, traysLeft, lengthsOf}
 use Rattle.definition.specs.Claim.{Proved, Reaching, Satisfied}
 use Rattle.definition.specs.Completeness.{ChecksContradictions}
@@ -60,9 +60,9 @@ TwelveExactly =
 abbrev pub TwelveZeroes : Type 0
 TwelveZeroes = (branch : List ℕ) (flags : ℕ) (lent : Trays) (place : ℕ) → answer branch flags lent ≡ refusal tooManyIdentifiers place → traysLeft branch flags lent ≡ laidOver zeroTrays lent
 
--- "each identifier once": at every state, those that steps have taken and those that wait are as many as there are
+-- "each identifier once": at every state, those that steps have taken and those that wait are as many as there are, if each marked record has a number
 abbrev pub QueueCounts : Type 0
-QueueCounts = (n : ℕ) (F : Setting) (rs : List Rec) → let s = unlimitedRun n F (start F rs) in s .steps + length (s .waiting) ≡ length (s .nodes)
+QueueCounts = (n : ℕ) (F : Setting) (rs : List Rec) → length (marks rs) ≤ nobody → let s = unlimitedRun n F (start F rs) in s .steps + length (s .waiting) ≡ length (s .nodes)
 
 -- no step, and no part of a step, takes an identifier back
 abbrev pub StepsGrow : Type 0
@@ -108,7 +108,7 @@ pub record NodeFits (n m : ℕ) (x : Node) : Type 0 where
   pub contrarian : Number n (x .contrarian)
 
 -- the bounds of a run that ended, with every number that the trays hold
-pub record Fits (s : State) : Type 0 where
+pub record StateFits (s : State) : Type 0 where
   pub identifiers : length (s .nodes) ≤ mostIdentifiers
   pub steps : s .steps ≤ mostIdentifiers
   pub formulas : length (s .formulas) ≤ mostFormulas
@@ -119,11 +119,11 @@ pub record Fits (s : State) : Type 0 where
 
 abbrev pub RunsFit : Type 0
 RunsFit =
-    (branch : List ℕ) (flags : ℕ) (lent : Lengths) (s : State) → Each (λ b. b < 256) branch → outcome branch flags lent ≡ Ended s → Fits s
+    (branch : List ℕ) (flags : ℕ) (lent : Lengths) (s : State) → Each (λ b. b < 256) branch → outcome branch flags lent ≡ Ended s → StateFits s
 
 -- "Only these lengths are written; anything beyond stays"
 abbrev pub TraysKeep : Type 0
-TraysKeep = (branch : List ℕ) (flags : ℕ) (lent : Trays) → Kept lent (traysLeft branch flags lent)
+TraysKeep = (branch : List ℕ) (flags : ℕ) (lent : Trays) → TraysKept lent (traysLeft branch flags lent)
 
 -- what a run that ended writes has exactly the three lengths
 abbrev pub TraysSized : Type 0

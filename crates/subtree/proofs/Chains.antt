@@ -12,11 +12,11 @@ use Rattle.arrays.specs.Listed.{Listed}
 use Rattle.definition.specs.Lists.{upFrom, Each}
 use Rattle.definition.specs.Tree.{Node, nodeAt, newNode}
 use Rattle.definition.specs.Subtree.{copied}
-use Rattle.definition.proofs.Lists.{each-map, each-reverse, upFrom-each}
-use Rattle.definition.proofs.Nodes.{node-append}
-use Rattle.tree.specs.Lay.{lay, Held, held, tooMany}
+use Rattle.definition.proofs.Basics.Lists.{each-map, each-reverse, upFrom-each}
+use Rattle.definition.proofs.Tree.Nodes.{node-append}
+use Rattle.tree.specs.Lay.{lay, Lays, Held, held, tooMany}
 use Rattle.tree.specs.declared.Chain.{Chain}
-use Rattle.tree.specs.Chain.{chainOf, Below}
+use Rattle.tree.specs.Chain.{chainOf, ChainBelow}
 use Rattle.tree.proofs.Nodes.{held-ok, held-same, held-as}
 use Rattle.tree.proofs.Chains.{chain-length, chain-up, chain-down}
 
@@ -36,7 +36,7 @@ turned-chain c d e s n =
     go true = refl
     go false = sym (reverse-reverse (upFrom (c .count) (c .start .0)))
 
-pub chain-each : (c : Chain) {m : ℕ} → Below c m → Each (λ x. x < m) (chainOf c)
+pub chain-each : (c : Chain) {m : ℕ} → ChainBelow c m → Each (λ x. x < m) (chainOf c)
 unfolding chainOf
 chain-each c {m} below = go (c .rising)
   where
@@ -68,12 +68,12 @@ snoc-copy t ch k h =
 pub copying-start : (t : List Node) (ch : List ℕ) {len : ℕ} {a : List ℕ} → Held t len a → Held (more t (take 0 ch)) len a
 copying-start t ch h = rw append-nil h
 
-pub copying-next : (t : List Node) (c : Chain) (k : ℕ) {m m′ : ℕ} {a b : List ℕ} (x s f w : ℕ) → k < c .count → Below c (length t)
+pub copying-next : (t : List Node) (c : Chain) (k : ℕ) {m m′ : ℕ} {a b : List ℕ} (x s f w : ℕ) → k < c .count → ChainBelow c (length t)
     → Held (more t (take k (chainOf c))) m a
-    → (Below c mostIdentifiers → k < c .count → x ≡ getD (chainOf c) k 0)
-    → ((ns : List Node) → length ns ≤ mostIdentifiers → a ≡ lay ns → s ≡ nodeAt ns x .spawner)
-    → ((ns : List Node) → length ns ≤ mostIdentifiers → a ≡ lay ns → f ≡ nodeAt ns x .formula)
-    → ((ns : List Node) → length ns ≤ mostIdentifiers → a ≡ lay ns → w ≡ nodeAt ns x .world)
+    → (ChainBelow c mostIdentifiers → k < c .count → x ≡ getD (chainOf c) k 0)
+    → ((ns : List Node) → Lays ns a → s ≡ nodeAt ns x .spawner)
+    → ((ns : List Node) → Lays ns a → f ≡ nodeAt ns x .formula)
+    → ((ns : List Node) → Lays ns a → w ≡ nodeAt ns x .world)
     → ((ns : List Node) → Held ns m a → Held (ns ++ (newNode s f w ∷ [])) m′ b)
     → Held (more t (take (k + 1) (chainOf c))) m′ b
 copying-next t c k {m} {m′} {a} {b} x s f w h g p ex es ef ew new =
@@ -96,12 +96,12 @@ copying-next t c k {m} {m′} {a} {b} x s f w h g p ex es ef ew new =
     same : m′ ≤ mostIdentifiers → Held ms m a → ms ++ (newNode s f w ∷ []) ≡ ms ++ (copied t (getD ch k 0) ∷ [])
     same q (tooMany i j) = absurd (omega (arith, held-ok (new ms p) q .0, length-append ms (newNode s f w ∷ [])))
     same q (held i j l) =
-        let n : length ms ≤ mostIdentifiers = omega arith in
+        let n : Lays ms a = record { fits = omega arith; laid = l } in
         let e : x ≡ getD (chainOf c) k 0 = ex (omega (arith, longer)) h in
         let o : nodeAt ms x ≡ nodeAt t (getD (chainOf c) k 0) = ap (nodeAt ms) e ∙ node-append t (map (copied t) (take k (chainOf c))) (getD (chainOf c) k 0) (omega (arith, chain-bound c k h)) in
-        ap (λ (v : ℕ). ms ++ (newNode v f w ∷ [])) (es ms n l ∙ ap (λ (y : Node). y .spawner) o)
-        ∙ ap (λ (v : ℕ). ms ++ (newNode (nodeAt t (getD ch k 0) .spawner) v w ∷ [])) (ef ms n l ∙ ap (λ (y : Node). y .formula) o)
-        ∙ ap (λ (v : ℕ). ms ++ (newNode (nodeAt t (getD ch k 0) .spawner) (nodeAt t (getD ch k 0) .formula) v ∷ [])) (ew ms n l ∙ ap (λ (y : Node). y .world) o)
+        ap (λ (v : ℕ). ms ++ (newNode v f w ∷ [])) (es ms n ∙ ap (λ (y : Node). y .spawner) o)
+        ∙ ap (λ (v : ℕ). ms ++ (newNode (nodeAt t (getD ch k 0) .spawner) v w ∷ [])) (ef ms n ∙ ap (λ (y : Node). y .formula) o)
+        ∙ ap (λ (v : ℕ). ms ++ (newNode (nodeAt t (getD ch k 0) .spawner) (nodeAt t (getD ch k 0) .formula) v ∷ [])) (ew ms n ∙ ap (λ (y : Node). y .world) o)
 
 pub copying-end : (t : List Node) (c : Chain) (k : ℕ) {m : ℕ} {a : List ℕ} → c .count ≤ k → Held (more t (take k (chainOf c))) m a → Held (more t (chainOf c)) m a
 copying-end t c k {m} {a} h p = subst (λ (l : List ℕ). Held (more t l) m a) (take-all k (chainOf c) (omega (arith, chain-length c))) p

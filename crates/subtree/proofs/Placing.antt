@@ -13,11 +13,11 @@ use Rattle.arrays.proofs.Listed.{listed-none, listed-count}
 use Rattle.definition.specs.Lists.{filter}
 use Rattle.definition.specs.Tree.{Node, linkChain, leaves}
 use Rattle.definition.specs.Subtree.{Subtree, flat, turned, numbered, copied, Placed, appendSubtreeOnLeaf, pushSubtree, appendCopies, appendOn, takes, appendSubtree}
-use Rattle.definition.proofs.Treed.{Treed}
-use Rattle.definition.proofs.Nodes.{length-leaf, ext-copies, ext-subtree}
-use Rattle.definition.proofs.Issued.{flat-numbered, length-from}
-use Rattle.tree.specs.Lay.{lay, Held, tooMany}
-use Rattle.tree.proofs.Nodes.{held-ok, held-fits, held-same, held-long}
+use Rattle.definition.specs.TreeShape.{Treed}
+use Rattle.definition.proofs.Tree.Nodes.{length-leaf, ext-copies, ext-subtree}
+use Rattle.definition.proofs.Basics.Identifiers.{flat-numbered, length-from}
+use Rattle.tree.specs.Lay.{lay, Lays, Held, tooMany}
+use Rattle.tree.proofs.Nodes.{held-ok, held-lays, held-fits, held-same, held-long}
 use Rattle.subtree.specs.declared.ProofSubtree.{ProofSubtree}
 use Rattle.subtree.specs.declared.Counts.{Counts}
 use Rattle.subtree.specs.declared.IssuedSubtree.{IssuedSubtree}
@@ -30,7 +30,7 @@ pub copy-placed : (s : ProofSubtree) (t : IssuedSubtree) (ns : List Node) (q : L
     → ((ms : List Node) → Held ms len a → Within s (length ms) → Attached ms s t a₁)
     → ((ms : List Node) → Held ms (t .len) a₁ → (length ms ≤ mostIdentifiers → Within (t .subtree) (length ms)) → Held (appendSubtreeOnLeaf ms y (subtreeOf (t .subtree))) (t .len) a₂)
     → ((l : List ℕ) → Listed l n b → Within (t .subtree) mostIdentifiers → Listed (pushSubtree l (subtreeOf (t .subtree))) w b′)
-    → Left (appendCopies ns q (y ∷ []) (subtreeOf s)) (record { nodes = t .len; waiting = w }) a₂ b′
+    → Left (appendCopies ns q (y ∷ []) (subtreeOf s)) (record { nodes = t .len; listed = w }) a₂ b′
 unfolding appendCopies
 copy-placed s t ns q y {len} {n} {w} {a} {a₁} {a₂} {b} {b′} p f i attaches hangs pushes =
     record {
@@ -62,7 +62,7 @@ pub record Copying (goal : Placed) (s : ProofSubtree) (rest : List ℕ) (low : �
   pub same : appendCopies (so-far .nodes) (so-far .waiting) rest (subtreeOf s) ≡ goal
 
 pub copies-start : (ns : List Node) (q : List ℕ) (s : ProofSubtree) (ls : List ℕ) {len n : ℕ} {a w : List ℕ} → Held ns len a → (len ≤ mostIdentifiers → Listed q n w)
-    → Copying (appendCopies ns q ls (subtreeOf s)) s ls (length ns) (record { nodes = len; waiting = n }) a w
+    → Copying (appendCopies ns q ls (subtreeOf s)) s ls (length ns) (record { nodes = len; listed = n }) a w
 copies-start ns q s ls p f = record { so-far = record { nodes = ns; waiting = q }; here = record { nodes = p; queue = f }; longer = omega arith; same = refl }
 
 copies-cons : (t : List Node) (q : List ℕ) (x : ℕ) (ls : List ℕ) (s : Subtree)
@@ -76,7 +76,7 @@ copies-nil t q s = refl
 
 pub copies-next : {goal : Placed} {low : ℕ} {r r′ : Counts} {a a′ w w′ : List ℕ} (s : ProofSubtree) (ls : List ℕ) (k x : ℕ) → k < length ls → x ≡ getD ls k 0 → Within s low
     → Copying goal s (drop k ls) low r a w
-    → ((ns : List Node) (q : List ℕ) → Held ns (r .nodes) a → (r .nodes ≤ mostIdentifiers → Listed q (r .waiting) w) → Within s (length ns) → Left (appendCopies ns q (x ∷ []) (subtreeOf s)) r′ a′ w′)
+    → ((ns : List Node) (q : List ℕ) → Held ns (r .nodes) a → (r .nodes ≤ mostIdentifiers → Listed q (r .listed) w) → Within s (length ns) → Left (appendCopies ns q (x ∷ []) (subtreeOf s)) r′ a′ w′)
     → Copying goal s (drop (k + 1) ls) low r′ a′ w′
 copies-next s ls k x h e i c f =
     let t = c .so-far .nodes in
@@ -112,10 +112,10 @@ nil (x ∷ l) e = absurd (omega arith)
 
 module _ (s : ProofSubtree) (ns : List Node) (q ls : List ℕ) {m : ℕ} {found : List ℕ} (l : Listed ls m found) (g : m ≤ mostIdentifiers) where
   pub on-none : {len w : ℕ} {a b : List ℕ} → m ≡ 0 → Held ns len a → (len ≤ mostIdentifiers → Listed (pushSubtree q (subtreeOf s)) w b)
-      → Left (appendOn ns q ls (subtreeOf s)) (record { nodes = len; waiting = w }) a b
+      → Left (appendOn ns q ls (subtreeOf s)) (record { nodes = len; listed = w }) a b
   unfolding appendOn
   on-none {len} {w} {a} {b} z p k =
-      subst (λ (x : List ℕ). Left (appendOn ns q x (subtreeOf s)) (record { nodes = len; waiting = w }) a b) (sym (nil ls (listed-count l g ∙ z)))
+      subst (λ (x : List ℕ). Left (appendOn ns q x (subtreeOf s)) (record { nodes = len; listed = w }) a b) (sym (nil ls (listed-count l g ∙ z)))
       (record { nodes = p; queue = k })
 
   pub on-some : {r : Counts} {a b : List ℕ} (x : ℕ) → (m ≡ 0 → ⊥) → x ≡ getD ls 0 0
@@ -197,12 +197,12 @@ listed-many (tooLong b e) h = e
 
 -- what `takers` finds
 pub found-takers : (target : ℕ) (ns : List Node) {len m : ℕ} {a found : List ℕ} → Held ns len a → len ≤ mostIdentifiers → (length ns ≤ mostIdentifiers → Treed ns)
-    → ((ms : List Node) → Treed ms → length ms ≡ len → len ≤ mostIdentifiers → a ≡ lay ms → Listed [] 0 (replicate mostIdentifiers 0) → Listed (filter (takes ms target) (leaves ms)) m found)
+    → ((ms : List Node) → Treed ms → length ms ≡ len → Lays ms a → Listed [] 0 (replicate mostIdentifiers 0) → Listed (filter (takes ms target) (leaves ms)) m found)
     → Listed (filter (takes ns target) (leaves ns)) m found
-found-takers target ns p h r f = let o = held-ok p h in f ns (r (omega (arith, o .0, h))) (o .0) h (o .1) listed-none
+found-takers target ns p h r f = let z = held-lays p h in f ns (r (z .fits)) (held-ok p h .0) z listed-none
 
 -- ---- the ways out of `append_subtree`
-pub subtree-full : (t : Subtree) (target : ℕ) (ns : List Node) (q : List ℕ) {len n : ℕ} {a w : List ℕ} → mostIdentifiers < len → Held ns len a → Left (appendSubtree ns q target t) (record { nodes = len; waiting = n }) a w
+pub subtree-full : (t : Subtree) (target : ℕ) (ns : List Node) (q : List ℕ) {len n : ℕ} {a w : List ℕ} → mostIdentifiers < len → Held ns len a → Left (appendSubtree ns q target t) (record { nodes = len; listed = n }) a w
 subtree-full t target ns q h p = record { nodes = held-long (appendSubtree ns q target t .nodes) p h (ext-subtree ns q target t .longer); queue = λ g. absurd (omega arith) }
 
 -- what the chains of s give is what t gives
@@ -212,13 +212,13 @@ subtree-as s t target ns q {r = r} {b} {w} p h c f = let k = c (omega (arith, he
 
 module _ (s : ProofSubtree) (target : ℕ) (ns : List Node) (q : List ℕ) where
   pub subtree-none : {len n : ℕ} {a w : List ℕ} → length (flat (subtreeOf s)) ≡ 0 → Held ns len a → (len ≤ mostIdentifiers → Listed q n w)
-      → Left (appendSubtree ns q target (subtreeOf s)) (record { nodes = len; waiting = n }) a w
+      → Left (appendSubtree ns q target (subtreeOf s)) (record { nodes = len; listed = n }) a w
   subtree-none e p f =
       left-as {p = record { nodes = ns; waiting = q }} (appendSubtree ns q target (subtreeOf s)) (sym (subtree-nothing ns q target (subtreeOf s) e)) (record { nodes = p; queue = f })
 
   module _ {m : ℕ} {found : List ℕ} (l : Listed (filter (takes ns target) (leaves ns)) m found) where
     pub subtree-many : {n : ℕ} {a w : List ℕ} → (length (flat (subtreeOf s)) ≡ 0 → ⊥) → Within s (length ns) → mostIdentifiers < m
-        → Left (appendSubtree ns q target (subtreeOf s)) (record { nodes = (suc mostIdentifiers); waiting = n }) a w
+        → Left (appendSubtree ns q target (subtreeOf s)) (record { nodes = (suc mostIdentifiers); listed = n }) a w
     unfolding appendSubtree
     subtree-many e i h =
         let z = pos-of-ne-zero e in

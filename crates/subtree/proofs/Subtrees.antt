@@ -9,11 +9,11 @@ use Rattle.arrays.specs.Listed.{Listed}
 use Rattle.definition.specs.Lists.{upFrom, Each}
 use Rattle.definition.specs.Tree.{Node, Place, Left, Middle, Right, newNode, linkChain}
 use Rattle.definition.specs.Subtree.{Subtree, flat, turned, numbered, copied, withMiddle, appendSubtreeOnLeaf, pushSubtree}
-use Rattle.definition.proofs.Nodes.{length-chain, length-leaf, node-append}
+use Rattle.definition.proofs.Tree.Nodes.{length-chain, length-leaf, node-append}
 use Rattle.tree.specs.Lay.{placeCode, Held}
 use Rattle.tree.specs.declared.Chain.{Chain}
 use Rattle.tree.specs.declared.IssuedChain.{IssuedChain}
-use Rattle.tree.specs.Chain.{chainOf, risingChain, emptyChain, Below, Spans, DrawnFrom}
+use Rattle.tree.specs.Chain.{chainOf, risingChain, emptyChain, ChainBelow, Spans, DrawnFrom}
 use Rattle.tree.proofs.Nodes.{held-ok, held-as}
 use Rattle.tree.proofs.Chains.{chain-length, spans-below, spans-chain}
 use Rattle.subtree.specs.declared.ProofSubtree.{ProofSubtree}
@@ -52,7 +52,7 @@ more-more t xs ys e =
     ∙ ap (λ (v : List Node). t ++ v) (sym (map-append (copied t) xs ys))
 
 abbrev Copies : Chain → ℕ → List ℕ → ℕ → List ℕ → Type 0
-Copies c n a m b = (ms : List Node) → Held ms n a → Below c (length ms) → Held (ms ++ map (copied ms) (chainOf c)) m b
+Copies c n a m b = (ms : List Node) → Held ms n a → ChainBelow c (length ms) → Held (ms ++ map (copied ms) (chainOf c)) m b
 
 pub copied-all : (s : ProofSubtree) (ns : List Node) {n₀ n₁ n₂ n₃ : ℕ} {a b c d : List ℕ} → Held ns n₀ a → Within s (length ns)
     → Copies (s .left) n₀ a n₁ b → Copies (s .middle) n₁ b n₂ c → Copies (s .right) n₂ c n₃ d → Held (more ns (flat (subtreeOf s))) n₃ d
@@ -80,7 +80,7 @@ module _ (ns : List Node) (c : Chain) {n : ℕ} {a b : List ℕ} (r : IssuedChai
   pub copy-from : n ≤ r .len
   copy-from = omega (arith, copy-spans .ends)
 
-  pub copy-below : Below (r .chain) (r .len)
+  pub copy-below : ChainBelow (r .chain) (r .len)
   copy-below = spans-below copy-spans
 
   pub copy-length : length ns + length (chainOf c) ≡ r .len
@@ -146,7 +146,7 @@ middle-only s start count l m r = rw (l, m, r) (refl, λ n h. record { onLeft = 
 
 -- ---- linked below a leaf
 abbrev Links : Chain → ℕ → ℕ → ℕ → List ℕ → List ℕ → Type 0
-Links c y code len a b = (ms : List Node) (p : Place) → placeCode p ≡ code → Held ms len a → (length ms ≤ mostIdentifiers → Below c (length ms)) → Held (linkChain ms y p (chainOf c)) len b
+Links c y code len a b = (ms : List Node) (p : Place) → placeCode p ≡ code → Held ms len a → (length ms ≤ mostIdentifiers → ChainBelow c (length ms)) → Held (linkChain ms y p (chainOf c)) len b
 
 pub hung : (s : ProofSubtree) (ns : List Node) (y : ℕ) {len : ℕ} {a b c d : List ℕ} → Held ns len a → (length ns ≤ mostIdentifiers → Within s (length ns))
     → Links (s .left) y 1 len a b → Links (s .middle) y 2 len b c → Links (s .right) y 3 len c d → Held (appendSubtreeOnLeaf ns y (subtreeOf s)) len d
@@ -164,8 +164,8 @@ hung s ns y p w f g h =
 abbrev Turned : Chain → Chain → Type 0
 Turned c d = (chainOf d ≡ reverse (chainOf c)) × (d .start .0 ≡ c .start .0) × (d .count ≡ c .count)
 
-pub pushed-turned : (c d : Chain) (q : List ℕ) {n n′ : ℕ} {a b : List ℕ} → Turned c d → Listed q n a → Below c mostIdentifiers
-    → ((l : List ℕ) → Listed l n a → Below d mostIdentifiers → Listed (l ++ chainOf d) n′ b) → Listed (q ++ reverse (chainOf c)) n′ b
+pub pushed-turned : (c d : Chain) (q : List ℕ) {n n′ : ℕ} {a b : List ℕ} → Turned c d → Listed q n a → ChainBelow c mostIdentifiers
+    → ((l : List ℕ) → Listed l n a → ChainBelow d mostIdentifiers → Listed (l ++ chainOf d) n′ b) → Listed (q ++ reverse (chainOf c)) n′ b
 pushed-turned c d q {n} {n′} {a} {b} t p w f = subst (λ (l : List ℕ). Listed (q ++ l) n′ b) (t .0) (f q p (omega (arith, t .1, t .2)))
 
 pub pushed-all : (s : ProofSubtree) (q : List ℕ) {n : ℕ} {a : List ℕ} → Listed (((q ++ reverse (chainOf (s .left))) ++ reverse (chainOf (s .middle))) ++ reverse (chainOf (s .right))) n a

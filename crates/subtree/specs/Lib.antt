@@ -1,2 +1,2 @@
 pub mod Subtree
-pub mod Rows
+pub mod Items

@@ -8,7 +8,7 @@ use Rattle.arrays.specs.Listed.{Listed}
 use Rattle.definition.specs.Tree.{Node}
 use Rattle.definition.specs.Subtree.{Subtree, Placed, flat, numbered, copied}
 use Rattle.tree.specs.Lay.{Held}
-use Rattle.tree.specs.Chain.{chainOf, Below}
+use Rattle.tree.specs.Chain.{chainOf, ChainBelow}
 use Rattle.subtree.specs.declared.ProofSubtree.{ProofSubtree}
 use Rattle.subtree.specs.declared.IssuedSubtree.{IssuedSubtree}
 use Rattle.subtree.specs.declared.Counts.{Counts}
@@ -18,9 +18,9 @@ subtreeOf s = record { left = chainOf (s .left); middle = chainOf (s .middle); r
 
 -- each identifier is below m
 pub record Within (s : ProofSubtree) (m : ℕ) : Type 0 where
-  pub onLeft : Below (s .left) m
-  pub onMiddle : Below (s .middle) m
-  pub onRight : Below (s .right) m
+  pub onLeft : ChainBelow (s .left) m
+  pub onMiddle : ChainBelow (s .middle) m
+  pub onRight : ChainBelow (s .right) m
 
 -- its chains are those of t, each identifier below m
 pub record Chained (s : ProofSubtree) (t : Subtree) (m : ℕ) : Type 0 where
@@ -35,4 +35,4 @@ pub record Attached (ns : List Node) (s : ProofSubtree) (r : IssuedSubtree) (a :
 -- the table holds the nodes, and, where these fit, the queue holds the waiting nodes
 pub record Left (p : Placed) (r : Counts) (a w : List ℕ) : Type 0 where
   pub nodes : Held (p .nodes) (r .nodes) a
-  pub queue : r .nodes ≤ mostIdentifiers → Listed (p .waiting) (r .waiting) w
+  pub queue : r .nodes ≤ mostIdentifiers → Listed (p .waiting) (r .listed) w

@@ -1,5 +1,4 @@
 // Subtrees: copied, appended below the leaves that take them, and queued.
-// Of a call whose arrays lay out nothing of the kind that its contract names: it ends and stays in bounds; its outcome is free.
 use arrays::nth;
 use arrays::push;
 use limits::FULL;
@@ -11,6 +10,9 @@ use limits::Numbers;
 use limits::Waiting;
 use tree::Chain;
 use tree::IssuedChain;
+use tree::PLACE_LEFT;
+use tree::PLACE_MIDDLE;
+use tree::PLACE_RIGHT;
 use tree::ProofTreeNodeID;
 use tree::chain_at;
 use tree::extend;
@@ -28,13 +30,12 @@ ghost use Rattle.limits.specs.Arrays.{itemFields};
 ghost use Rattle.arrays.specs.Listed.{Listed};
 ghost use Rattle.definition.specs.Lists.{upFrom};
 ghost use Rattle.definition.specs.Tree.{Node};
-ghost use Rattle.definition.specs.Subtree.{Subtree, withMiddle, flat, copied, appendSubtreeOnLeaf, pushSubtree, appendCopies, appendOn, appendSubtree, appendLogicRuleResult};
-ghost use Rattle.definition.proofs.Treed.{Treed};
-ghost use Rattle.definition.proofs.Growing.{Steady};
+ghost use Rattle.definition.specs.Subtree.{Subtree, Targeted, withMiddle, flat, copied, appendSubtreeOnLeaf, pushSubtree, appendCopies, appendOn, appendSubtree, appendLogicRuleResult};
+ghost use Rattle.definition.specs.TreeShape.{Treed, TreedThroughout};
 ghost use Rattle.tree.specs.Lay.{Held};
-ghost use Rattle.tree.specs.Chain.{chainOf, Below, Spans, DrawnFrom};
+ghost use Rattle.tree.specs.Chain.{chainOf, ChainBelow, Spans, DrawnFrom};
 ghost use Rattle.subtree.specs.Subtree.{subtreeOf, Within, Chained, Attached, Left};
-ghost use Rattle.subtree.specs.Rows.{Row, Rows, itemFrom};
+ghost use Rattle.subtree.specs.Items.{Item, ItemsHeld, Listing};
 
 pub struct ProofSubtree {
     pub left: Chain,
@@ -42,10 +43,10 @@ pub struct ProofSubtree {
     pub right: Chain,
 }
 
-// How many nodes there are and how many wait; more nodes than there is room for: full.
+// How many nodes there are, and how many entries the list beside them has: of nodes that wait, or of subtrees. More nodes than there is room for: full.
 pub struct Counts {
     pub nodes: usize,
-    pub waiting: usize,
+    pub listed: usize,
 }
 
 // The same chain from the other end.
@@ -87,8 +88,8 @@ fn size(s: ProofSubtree) -> usize
 }
 
 // A copy of each node of the chain, in its order: the chain of the copies.
-fn copy_chain(tree: &mut Nodes, len: usize, c: Chain) -> IssuedChain
-    ensures { λ r. ⌜ DrawnFrom len r × ((ns : List Node) → Held ns len (now (tree .entry)) → Below c (length ns) → Held (ns ++ map (copied ns) (chainOf c)) (r .len) (now (tree .exit))) ⌝ }
+fn copy_chain(nodes: &mut Nodes, len: usize, c: Chain) -> IssuedChain
+    ensures { λ r. ⌜ DrawnFrom len r × ((ns : List Node) → Held ns len (now (nodes .entry)) → ChainBelow c (length ns) → Held (ns ++ map (copied ns) (chainOf c)) (r .len) (now (nodes .exit))) ⌝ }
 {
     let n = c.count as usize;
     let mut copies = IssuedChain {
@@ -98,10 +99,10 @@ fn copy_chain(tree: &mut Nodes, len: usize, c: Chain) -> IssuedChain
     let mut k: usize = 0;
     while k < n {
         let x = chain_at(c, k);
-        let s = spawner_of(tree, x);
-        let f = formula_of(tree, x);
-        let w = world_of(tree, x);
-        copies = extend(tree, copies, s, f, w);
+        let s = spawner_of(nodes, x);
+        let f = formula_of(nodes, x);
+        let w = world_of(nodes, x);
+        copies = extend(nodes, copies, s, f, w);
         k += 1;
     }
     copies
@@ -114,15 +115,15 @@ struct IssuedSubtree {
 }
 
 // A copy of each node of the subtree, under identifiers drawn for it.
-fn attach_new_ids(tree: &mut Nodes, len: usize, s: ProofSubtree) -> IssuedSubtree
-    ensures { λ r. ⌜ ((ns : List Node) → Held ns len (now (tree .entry)) → Within s (length ns) → Attached ns s r (now (tree .exit))) ⌝ }
+fn attach_new_ids(nodes: &mut Nodes, len: usize, s: ProofSubtree) -> IssuedSubtree
+    ensures { λ r. ⌜ ((ns : List Node) → Held ns len (now (nodes .entry)) → Within s (length ns) → Attached ns s r (now (nodes .exit))) ⌝ }
 {
     let l = s.left;
     let m = s.middle;
     let r = s.right;
-    let a = copy_chain(tree, len, l);
-    let b = copy_chain(tree, a.len, m);
-    let c = copy_chain(tree, b.len, r);
+    let a = copy_chain(nodes, len, l);
+    let b = copy_chain(nodes, a.len, m);
+    let c = copy_chain(nodes, b.len, r);
     let left = a.chain;
     let middle = b.chain;
     let right = c.chain;
@@ -138,20 +139,20 @@ fn attach_new_ids(tree: &mut Nodes, len: usize, s: ProofSubtree) -> IssuedSubtre
 }
 
 // The subtree becomes what stands below the leaf.
-fn append_subtree_on_leaf(tree: &mut Nodes, len: usize, leaf: ProofTreeNodeID, s: ProofSubtree)
-    ensures { λ r. ⌜ ((ns : List Node) → Held ns len (now (tree .entry)) → (length ns ≤ mostIdentifiers → Within s (length ns)) → Held (appendSubtreeOnLeaf ns (leaf .0) (subtreeOf s)) len (now (tree .exit))) ⌝ }
+fn append_subtree_on_leaf(nodes: &mut Nodes, len: usize, leaf: ProofTreeNodeID, s: ProofSubtree)
+    ensures { λ r. ⌜ ((ns : List Node) → Held ns len (now (nodes .entry)) → (length ns ≤ mostIdentifiers → Within s (length ns)) → Held (appendSubtreeOnLeaf ns (leaf .0) (subtreeOf s)) len (now (nodes .exit))) ⌝ }
 {
     let l = s.left;
     let m = s.middle;
     let r = s.right;
-    link_chain(tree, len, leaf, 1, l);
-    link_chain(tree, len, leaf, 2, m);
-    link_chain(tree, len, leaf, 3, r);
+    link_chain(nodes, len, leaf, PLACE_LEFT, l);
+    link_chain(nodes, len, leaf, PLACE_MIDDLE, m);
+    link_chain(nodes, len, leaf, PLACE_RIGHT, r);
 }
 
 // The chain's identifiers, top first, at the end of a list.
 fn push_chain(out: &mut Numbers, start: usize, c: Chain) -> usize
-    ensures { λ r. ⌜ ((q : List ℕ) → Listed q start (now (out .entry)) → Below c mostIdentifiers → Listed (q ++ chainOf c) r (now (out .exit))) ⌝ }
+    ensures { λ r. ⌜ ((q : List ℕ) → Listed q start (now (out .entry)) → ChainBelow c mostIdentifiers → Listed (q ++ chainOf c) r (now (out .exit))) ⌝ }
 {
     let n = c.count as usize;
     let mut m = start;
@@ -165,61 +166,61 @@ fn push_chain(out: &mut Numbers, start: usize, c: Chain) -> usize
 }
 
 // The subtree's identifiers at the end of the queue, each chain from the bottom up.
-fn push_subtree(wait: &mut Waiting, n: usize, s: ProofSubtree) -> usize
-    ensures { λ r. ⌜ ((q : List ℕ) → Listed q n (now (wait .entry)) → Within s mostIdentifiers → Listed (pushSubtree q (subtreeOf s)) r (now (wait .exit))) ⌝ }
+fn push_subtree(waiting: &mut Waiting, n: usize, s: ProofSubtree) -> usize
+    ensures { λ r. ⌜ ((q : List ℕ) → Listed q n (now (waiting .entry)) → Within s mostIdentifiers → Listed (pushSubtree q (subtreeOf s)) r (now (waiting .exit))) ⌝ }
 {
     let l = s.left;
     let m = s.middle;
     let r = s.right;
-    let a = push_chain(wait, n, turned(l));
-    let b = push_chain(wait, a, turned(m));
-    push_chain(wait, b, turned(r))
+    let a = push_chain(waiting, n, turned(l));
+    let b = push_chain(waiting, a, turned(m));
+    push_chain(waiting, b, turned(r))
 }
 
 // A copy of the subtree below one leaf.
 fn append_copy(
-    tree: &mut Nodes,
+    nodes: &mut Nodes,
     len: usize,
     leaf: ProofTreeNodeID,
     s: ProofSubtree,
-    wait: &mut Waiting,
+    waiting: &mut Waiting,
     n: usize,
 ) -> Counts
-    ensures { λ r. ⌜ ((ns : List Node) (q : List ℕ) → Held ns len (now (tree .entry)) → (len ≤ mostIdentifiers → Listed q n (now (wait .entry))) → Within s (length ns)
-        → Left (appendCopies ns q (leaf .0 ∷ []) (subtreeOf s)) r (now (tree .exit)) (now (wait .exit))) ⌝ }
+    ensures { λ r. ⌜ ((ns : List Node) (q : List ℕ) → Held ns len (now (nodes .entry)) → (len ≤ mostIdentifiers → Listed q n (now (waiting .entry))) → Within s (length ns)
+        → Left (appendCopies ns q (leaf .0 ∷ []) (subtreeOf s)) r (now (nodes .exit)) (now (waiting .exit))) ⌝ }
 {
-    let copied = attach_new_ids(tree, len, s);
+    let copied = attach_new_ids(nodes, len, s);
     let copy = copied.subtree;
-    append_subtree_on_leaf(tree, copied.len, leaf, copy);
-    let w = push_subtree(wait, n, copy);
+    append_subtree_on_leaf(nodes, copied.len, leaf, copy);
+    let w = push_subtree(waiting, n, copy);
     Counts {
         nodes: copied.len,
-        waiting: w,
+        listed: w,
     }
 }
 
 // A copy of the subtree below each of the leaves, from the given one on.
 fn append_copies(
-    tree: &mut Nodes,
+    nodes: &mut Nodes,
     len: usize,
     leaves: &Numbers,
     m: usize,
     from: usize,
     s: ProofSubtree,
-    wait: &mut Waiting,
+    waiting: &mut Waiting,
     n: usize,
 ) -> Counts
-    ensures { λ r. ⌜ ((ns : List Node) (q ls : List ℕ) → Held ns len (now (tree .entry)) → (len ≤ mostIdentifiers → Listed q n (now (wait .entry))) → Within s (length ns)
-        → Listed ls m (now (leaves .entry)) → m ≤ mostIdentifiers → Left (appendCopies ns q (drop from ls) (subtreeOf s)) r (now (tree .exit)) (now (wait .exit))) ⌝ }
+    ensures { λ r. ⌜ ((ns : List Node) (q ls : List ℕ) → Held ns len (now (nodes .entry)) → (len ≤ mostIdentifiers → Listed q n (now (waiting .entry))) → Within s (length ns)
+        → Listed ls m (now (leaves .entry)) → m ≤ mostIdentifiers → Left (appendCopies ns q (drop from ls) (subtreeOf s)) r (now (nodes .exit)) (now (waiting .exit))) ⌝ }
 {
     let mut here = Counts {
         nodes: len,
-        waiting: n,
+        listed: n,
     };
     let mut k = from;
     while k < m {
         let leaf = ProofTreeNodeID(nth(leaves, k));
-        here = append_copy(tree, here.nodes, leaf, s, wait, here.waiting);
+        here = append_copy(nodes, here.nodes, leaf, s, waiting, here.listed);
         k += 1;
     }
     here
@@ -227,44 +228,44 @@ fn append_copies(
 
 // Below the first of the leaves the subtree, below each further one a copy.
 fn append_on(
-    tree: &mut Nodes,
+    nodes: &mut Nodes,
     len: usize,
     leaves: &Numbers,
     m: usize,
     s: ProofSubtree,
-    wait: &mut Waiting,
+    waiting: &mut Waiting,
     n: usize,
 ) -> Counts
-    ensures { λ r. ⌜ ((ns : List Node) (q ls : List ℕ) → Held ns len (now (tree .entry)) → (len ≤ mostIdentifiers → Listed q n (now (wait .entry))) → Within s (length ns)
-        → Listed ls m (now (leaves .entry)) → m ≤ mostIdentifiers → Left (appendOn ns q ls (subtreeOf s)) r (now (tree .exit)) (now (wait .exit))) ⌝ }
+    ensures { λ r. ⌜ ((ns : List Node) (q ls : List ℕ) → Held ns len (now (nodes .entry)) → (len ≤ mostIdentifiers → Listed q n (now (waiting .entry))) → Within s (length ns)
+        → Listed ls m (now (leaves .entry)) → m ≤ mostIdentifiers → Left (appendOn ns q ls (subtreeOf s)) r (now (nodes .exit)) (now (waiting .exit))) ⌝ }
 {
-    let w = push_subtree(wait, n, s);
+    let w = push_subtree(waiting, n, s);
     if m == 0 {
         return Counts {
             nodes: len,
-            waiting: w,
+            listed: w,
         };
     }
     let leaf = ProofTreeNodeID(nth(leaves, 0));
-    append_subtree_on_leaf(tree, len, leaf, s);
-    append_copies(tree, len, leaves, m, 1, s, wait, w)
+    append_subtree_on_leaf(nodes, len, leaf, s);
+    append_copies(nodes, len, leaves, m, 1, s, waiting, w)
 }
 
 // The subtree, below each leaf whose path holds the target and has no contradictory node. More nodes than there is room for: full.
 pub fn append_subtree(
-    tree: &mut Nodes,
+    nodes: &mut Nodes,
     len: usize,
     target: ProofTreeNodeID,
     s: ProofSubtree,
-    wait: &mut Waiting,
+    waiting: &mut Waiting,
     n: usize,
 ) -> Counts
-    ensures { λ r. ⌜ ((ns : List Node) (q : List ℕ) (t : Subtree) → Held ns len (now (tree .entry)) → (len ≤ mostIdentifiers → Listed q n (now (wait .entry))) → (length ns ≤ mostIdentifiers → Chained s t (length ns))
-        → (length ns ≤ mostIdentifiers → Treed ns) → Left (appendSubtree ns q (target .0) t) r (now (tree .exit)) (now (wait .exit))) ⌝ }
+    ensures { λ r. ⌜ ((ns : List Node) (q : List ℕ) (t : Subtree) → Held ns len (now (nodes .entry)) → (len ≤ mostIdentifiers → Listed q n (now (waiting .entry))) → (length ns ≤ mostIdentifiers → Chained s t (length ns))
+        → (length ns ≤ mostIdentifiers → Treed ns) → Left (appendSubtree ns q (target .0) t) r (now (nodes .exit)) (now (waiting .exit))) ⌝ }
 {
     let as_it_was = Counts {
         nodes: len,
-        waiting: n,
+        listed: n,
     };
     if MOST_IDENTIFIERS < len {
         return as_it_was;
@@ -273,14 +274,14 @@ pub fn append_subtree(
         return as_it_was;
     }
     let mut found = [0u16; MOST_IDENTIFIERS];
-    let m = takers(tree, len, target, &mut found);
+    let m = takers(nodes, len, target, &mut found);
     if MOST_IDENTIFIERS < m {
         return Counts {
             nodes: FULL,
-            waiting: n,
+            listed: n,
         };
     }
-    append_on(tree, len, &found, m, s, wait, n)
+    append_on(nodes, len, &found, m, s, waiting, n)
 }
 
 // Number j of row k of the table of subtrees.
@@ -298,8 +299,8 @@ fn item_field(items: &Items, k: usize, j: usize) -> u16
 
 // One subtree more: a middle chain of identifiers above all that are there. None: nothing is stored. FULL where there is no room.
 pub fn push_item(items: &mut Items, count: usize, target: ProofTreeNodeID, c: Chain) -> usize
-    ensures { λ r. ⌜ ((rs : List Row) (lo hi : ℕ) → Rows rs count (now (items .entry)) lo → Spans c lo hi
-        → Rows (rs ++ (record { target = target .0; start = lo; count = c .count } ∷ [])) r (now (items .exit)) hi) ⌝ }
+    ensures { λ r. ⌜ ((rs : List Item) (lo hi : ℕ) → ItemsHeld rs count (now (items .entry)) lo → Spans c lo hi
+        → ItemsHeld (rs ++ (record { target = target .0; start = lo; count = c .count } ∷ [])) r (now (items .exit)) hi) ⌝ }
 {
     if c.count == 0 {
         return count;
@@ -316,30 +317,30 @@ pub fn push_item(items: &mut Items, count: usize, target: ProofTreeNodeID, c: Ch
 
 // The subtrees of a joined result, placed and queued one after the other.
 pub fn append_logic_rule_result(
-    tree: &mut Nodes,
-    len: usize,
+    nodes: &mut Nodes,
+    made: Counts,
     items: &Items,
-    count: usize,
-    wait: &mut Waiting,
+    waiting: &mut Waiting,
     n: usize,
 ) -> Counts
-    ensures { λ r. ⌜ ((ns : List Node) (q : List ℕ) (rs : List Row) → Held ns len (now (tree .entry)) → (len ≤ mostIdentifiers → Listed q n (now (wait .entry)))
-        → (len ≤ mostIdentifiers → Rows rs count (now (items .entry)) (length ns)) → Steady ns q (map itemFrom rs)
-        → Left (appendLogicRuleResult ns q (map itemFrom rs)) r (now (tree .exit)) (now (wait .exit))) ⌝ }
+    ensures { λ r. ⌜ ((ns : List Node) (q : List ℕ) (is : List Targeted) → Held ns (made .nodes) (now (nodes .entry)) → (made .nodes ≤ mostIdentifiers → Listed q n (now (waiting .entry)))
+        → (made .nodes ≤ mostIdentifiers → Listing [] is (made .listed) (length ns) (now (items .entry))) → TreedThroughout ns q is
+        → Left (appendLogicRuleResult ns q is) r (now (nodes .exit)) (now (waiting .exit))) ⌝ }
 {
     let mut here = Counts {
-        nodes: len,
-        waiting: n,
+        nodes: made.nodes,
+        listed: n,
     };
-    if MOST_IDENTIFIERS < len {
+    if MOST_IDENTIFIERS < made.nodes {
         return here;
     }
+    let count = made.listed;
     let mut k: usize = 0;
     while k < count {
         let target = ProofTreeNodeID(item_field(items, k, 0));
         let start = ProofTreeNodeID(item_field(items, k, 1));
         let s = with_middle_vertical_nodes(start, item_field(items, k, 2));
-        here = append_subtree(tree, here.nodes, target, s, wait, here.waiting);
+        here = append_subtree(nodes, here.nodes, target, s, waiting, here.listed);
         k += 1;
     }
     here

@@ -11,8 +11,8 @@ use Rattle.definition.specs.Lists.{Each}
 use Rattle.definition.specs.Records.{Kind, Rec, Atomic, Non, And, Or, Imply, BiImply, StrictImply, Possible, Necessary, Unknown, Comment, numberOf}
 use Rattle.definition.specs.Tree.{Node, Place, Root, Left, Middle, Right, Unplaced, placeNumber, isContradictory, nodeAt}
 use Rattle.definition.specs.Trays.{two, nodeBytes, recordBytes}
-use Rattle.definition.proofs.Lists.{each-get}
-use Rattle.definition.proofs.Nodes.{blank}
+use Rattle.definition.proofs.Basics.Lists.{each-get}
+use Rattle.definition.proofs.Tree.Nodes.{blank}
 use Rattle.tree.specs.Lay.{placeCode}
 use Rattle.tree.specs.Sequence.{idAt}
 use Rattle.tree.proofs.Sequence.{id-fits}
@@ -32,21 +32,21 @@ number-low Necessary = omega arith
 number-low Unknown = omega arith
 number-low Comment = omega arith
 
-pub place-far : (p : Place) → 4 < placeCode p → 4 ≡ placeNumber p
+pub place-none : (p : Place) → placeCode p ≡ 65535 → 4 ≡ placeNumber p
 unfolding placeNumber
-place-far Root h = absurd (omega arith)
-place-far Left h = absurd (omega arith)
-place-far Middle h = absurd (omega arith)
-place-far Right h = absurd (omega arith)
-place-far Unplaced h = refl
+place-none Root h = absurd (omega arith)
+place-none Left h = absurd (omega arith)
+place-none Middle h = absurd (omega arith)
+place-none Right h = absurd (omega arith)
+place-none Unplaced h = refl
 
-pub place-near : (p : Place) → placeCode p ≤ 4 → placeCode p % 256 ≡ placeNumber p
+pub place-some : (p : Place) → (placeCode p ≡ 65535 → ⊥) → placeCode p % 256 ≡ placeNumber p
 unfolding placeNumber
-place-near Root h = omega arith
-place-near Left h = omega arith
-place-near Middle h = omega arith
-place-near Right h = omega arith
-place-near Unplaced h = absurd (omega arith)
+place-some Root h = omega arith
+place-some Left h = omega arith
+place-some Middle h = omega arith
+place-some Right h = omega arith
+place-some Unplaced h = absurd (h refl)
 
 pub node-bytes : (x : Node) {parent place world formula spawner contrarian bit : ℕ} →
     parent ≡ x .parent → place ≡ placeNumber (x .place) → world ≡ x .world → formula ≡ x .formula → spawner ≡ x .spawner → contrarian ≡ x .contrarian → bit ≡ cond (isContradictory x) 1 0 →

@@ -11,10 +11,9 @@ use lib.Seq.{drop-cons}
 use Rattle.arrays.proofs.Laws.{getD-padded}
 use Rattle.definition.specs.Limits.{graphWidth, edgeTrayLength}
 use Rattle.definition.specs.Lists.{Each, padded}
-use Rattle.definition.proofs.Lists.{each-map, each-get}
+use Rattle.definition.proofs.Basics.Lists.{each-map, each-get, length-padded}
 use Rattle.definition.specs.Graph.{Graph, edge}
 use Rattle.definition.specs.Trays.{rowNumber, over}
-use Rattle.definition.proofs.Lists.{length-padded}
 use Rattle.graph.specs.Drawn.{Drawn}
 use Rattle.slices.proofs.Writing.{Writing, written-none, writing-start, writing-one, writing-end}
 

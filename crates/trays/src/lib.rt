@@ -1,5 +1,4 @@
 // The trays that a run leaves: nodes, formulas, edges.
-// Of a call whose arrays lay out nothing of the kind that its contract names: it ends and stays in bounds; its outcome is free.
 use formula::FormulaNumber;
 use formula::kind_at;
 use formula::left_at;
@@ -20,6 +19,7 @@ use slices::low;
 use slices::put;
 use slices::put_two;
 use slices::put_zeros;
+use tree::PLACE_UNPLACED;
 use tree::ProofTreeNodeID;
 use tree::contrarian_of;
 use tree::formula_of;
@@ -41,7 +41,7 @@ ghost use Rattle.definition.specs.Records.{Rec, recAt};
 ghost use Rattle.definition.specs.Tree.{Node, Place, placeNumber, nodeAt};
 ghost use Rattle.definition.specs.Graph.{Graph};
 ghost use Rattle.definition.specs.Trays.{nodeBytes, recordBytes, rowNumber, over};
-ghost use Rattle.tree.specs.Lay.{placeCode, lay};
+ghost use Rattle.tree.specs.Lay.{placeCode, Lays};
 ghost use Rattle.formula.specs.Recorded.{Recorded};
 ghost use Rattle.graph.specs.Drawn.{Drawn};
 ghost use Rattle.slices.specs.Written.{Puts};
@@ -51,7 +51,7 @@ ghost use Rattle.trays.specs.Appended.{SameTray, Appends};
 fn place_byte(place: u16) -> u8
     ensures { λ r. ⌜ ((p : Place) → place ≡ placeCode p → r ≡ placeNumber p) ⌝ }
 {
-    if 4 < place {
+    if place == PLACE_UNPLACED {
         return 4;
     }
     low(place)
@@ -67,17 +67,17 @@ fn bit(set: bool) -> u8
 }
 
 // The record of node x, 12 bytes.
-fn put_node(tray: &mut [u8], at: usize, tree: &Nodes, x: ProofTreeNodeID) -> usize
-    ensures { λ r. ⌜ ((ns : List Node) → length ns ≤ mostIdentifiers → now (tree .entry) ≡ lay ns → nodeAt ns (x .0) .world < 256
+fn put_node(tray: &mut [u8], at: usize, nodes: &Nodes, x: ProofTreeNodeID) -> usize
+    ensures { λ r. ⌜ ((ns : List Node) → Lays ns (now (nodes .entry)) → nodeAt ns (x .0) .world < 256
         → Puts (nodeBytes (nodeAt ns (x .0))) at (now (tray .entry)) r (now (tray .exit))) ⌝ }
 {
-    let parent = parent_of(tree, x);
-    let place = place_of(tree, x);
-    let world = world_of(tree, x);
-    let formula = formula_of(tree, x);
-    let spawner = spawner_of(tree, x);
-    let contrarian = contrarian_of(tree, x);
-    let contradictory = is_contradictory(tree, x);
+    let parent = parent_of(nodes, x);
+    let place = place_of(nodes, x);
+    let world = world_of(nodes, x);
+    let formula = formula_of(nodes, x);
+    let spawner = spawner_of(nodes, x);
+    let contrarian = contrarian_of(nodes, x);
+    let contradictory = is_contradictory(nodes, x);
     let a = put_two(tray, at, parent.0);
     let b = put(tray, a, place_byte(place));
     let c = put(tray, b, low(world.0));
@@ -102,12 +102,12 @@ fn writer<'a>(tray: &'a mut [u8], at: usize) -> NodeWriter<'a>
 }
 
 // The record of node x is appended: the writer is handed back at the position after it.
-fn append<'a>(w: NodeWriter<'a>, tree: &Nodes, x: ProofTreeNodeID) -> NodeWriter<'a>
-    ensures { λ r. ⌜ SameTray (w .entry) r × ((ns : List Node) → length ns ≤ mostIdentifiers → now (tree .entry) ≡ lay ns → nodeAt ns (x .0) .world < 256
+fn append<'a>(w: NodeWriter<'a>, nodes: &Nodes, x: ProofTreeNodeID) -> NodeWriter<'a>
+    ensures { λ r. ⌜ SameTray (w .entry) r × ((ns : List Node) → Lays ns (now (nodes .entry)) → nodeAt ns (x .0) .world < 256
         → Appends (nodeBytes (nodeAt ns (x .0))) (w .entry) r) ⌝ }
 {
     let at = w.at;
-    let next = put_node(&mut *w.tray, at, tree, x);
+    let next = put_node(&mut *w.tray, at, nodes, x);
     NodeWriter {
         tray: w.tray,
         at: next,
@@ -115,18 +115,18 @@ fn append<'a>(w: NodeWriter<'a>, tree: &Nodes, x: ProofTreeNodeID) -> NodeWriter
 }
 
 // The record of node x, appended by a writer.
-fn append_node(tray: &mut [u8], at: usize, tree: &Nodes, x: ProofTreeNodeID) -> usize
-    ensures { λ r. ⌜ ((ns : List Node) → length ns ≤ mostIdentifiers → now (tree .entry) ≡ lay ns → nodeAt ns (x .0) .world < 256
+fn append_node(tray: &mut [u8], at: usize, nodes: &Nodes, x: ProofTreeNodeID) -> usize
+    ensures { λ r. ⌜ ((ns : List Node) → Lays ns (now (nodes .entry)) → nodeAt ns (x .0) .world < 256
         → Puts (nodeBytes (nodeAt ns (x .0))) at (now (tray .entry)) r (now (tray .exit))) ⌝ }
 {
-    let w = append(writer(tray, at), tree, x);
+    let w = append(writer(tray, at), nodes, x);
     w.at
 }
 
 // The node tray: the records in order of identifier, then zeros.
 // In a short tray, or of more nodes than the limit, nothing is written.
-pub fn write_nodes(tray: &mut [u8], tree: &Nodes, len: usize)
-    ensures { λ r. ⌜ ((ns : List Node) → length ns ≡ len → len ≤ mostIdentifiers → now (tree .entry) ≡ lay ns → Each (λ (x : Node). x .world < 256) ns
+pub fn write_nodes(tray: &mut [u8], nodes: &Nodes, len: usize)
+    ensures { λ r. ⌜ ((ns : List Node) → length ns ≡ len → Lays ns (now (nodes .entry)) → Each (λ (x : Node). x .world < 256) ns
         → nodeTrayLength ≤ length (now (tray .entry)) → now (tray .exit) ≡ over (padded nodeTrayLength (concatMap nodeBytes ns)) (now (tray .entry)))
         × ((length (now (tray .entry)) < nodeTrayLength) ⊎ (mostIdentifiers < len) → now (tray .exit) ≡ now (tray .entry)) ⌝ }
 {
@@ -139,7 +139,7 @@ pub fn write_nodes(tray: &mut [u8], tree: &Nodes, len: usize)
     let mut at: usize = 0;
     let mut i: usize = 0;
     while i < len {
-        at = append_node(tray, at, tree, id_at(i));
+        at = append_node(tray, at, nodes, id_at(i));
         i += 1;
     }
     put_zeros(tray, at, NODE_TRAY_LENGTH);

@@ -12,13 +12,13 @@ use lib.Seq.{drop-cons}
 use Rattle.definition.specs.Limits.{mostIdentifiers}
 use Rattle.definition.specs.Lists.{upFrom}
 use Rattle.definition.specs.Tree.{Node, Place, Middle, link, linkChain}
-use Rattle.definition.proofs.Lists.{from-get}
-use Rattle.definition.proofs.Nodes.{length-chain}
-use Rattle.definition.proofs.Issued.{length-from}
+use Rattle.definition.proofs.Basics.Lists.{from-get}
+use Rattle.definition.proofs.Tree.Nodes.{length-chain}
+use Rattle.definition.proofs.Basics.Identifiers.{length-from}
 use Rattle.tree.specs.declared.Chain.{Chain}
 use Rattle.tree.specs.declared.Issued.{Issued}
 use Rattle.tree.specs.declared.IssuedChain.{IssuedChain}
-use Rattle.tree.specs.Chain.{chainOf, emptyChain, Below, Spans, DrawnFrom}
+use Rattle.tree.specs.Chain.{chainOf, emptyChain, ChainBelow, Spans, DrawnFrom}
 use Rattle.tree.specs.Sequence.{Draws}
 use Rattle.tree.specs.Lay.{placeCode, Held}
 use Rattle.tree.proofs.Sequence.{drawn-next}
@@ -59,7 +59,7 @@ inside c k h g (inr e) = absurd (omega (arith, g, e))
 
 -- ---- a chain of identifiers that were drawn
 module _ {c : Chain} {lo hi : ℕ} (s : Spans c lo hi) where
-  pub spans-below : Below c hi
+  pub spans-below : ChainBelow c hi
   spans-below = omega (arith, s .ends, s .low)
 
   pub spans-chain : chainOf c ≡ upFrom (c .count) lo
@@ -140,7 +140,7 @@ module _ {goal : List Node} {len : ℕ} {a : List ℕ} {above at : ℕ} (c : Cha
       (l .has)
 
 -- a chain of nodes that fit
-pub below-fits : {ns : List Node} {len : ℕ} {a : List ℕ} (c : Chain) → len ≤ mostIdentifiers → Held ns len a → (length ns ≤ mostIdentifiers → Below c (length ns)) → Below c mostIdentifiers
+pub below-fits : {ns : List Node} {len : ℕ} {a : List ℕ} (c : Chain) → len ≤ mostIdentifiers → Held ns len a → (length ns ≤ mostIdentifiers → ChainBelow c (length ns)) → ChainBelow c mostIdentifiers
 below-fits c h p b = let e = held-ok p h .0 in omega (arith, e, b (omega (arith, e, h)))
 
 pub chain-full : {ns : List Node} {len : ℕ} {a : List ℕ} (y : ℕ) (p : Place) (xs : List ℕ) → mostIdentifiers < len → Held ns len a → Held (linkChain ns y p xs) len a

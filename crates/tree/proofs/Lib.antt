@@ -1,4 +1,4 @@
-pub mod Rows
+pub mod TableRows
 pub mod Nodes
 pub mod Chains
 pub mod Paths

@@ -12,11 +12,11 @@ use Rattle.definition.specs.Limits.{mostIdentifiers}
 use Rattle.limits.specs.Arrays.{nodeFields, nodeCells}
 use Rattle.definition.specs.Records.{nobody, isNobody}
 use Rattle.definition.specs.Tree.{Node, Children, Place, Root, Left, Middle, Right, Unplaced, nodeAt, newNode, setChild, change, placedBelow, withChild, isContradictory, link, isLeaf}
-use Rattle.definition.proofs.Nodes.{blank, length-change}
-use Rattle.tree.specs.Lay.{placeCode, row, lay, Held, held, tooMany}
+use Rattle.definition.proofs.Tree.Nodes.{blank, length-change}
+use Rattle.tree.specs.Lay.{placeCode, row, lay, Lays, Held, held, tooMany}
 use Rattle.tree.specs.Sequence.{idAt, countAfter}
 use Rattle.tree.proofs.Sequence.{id-next, count-full, count-more}
-use Rattle.tree.proofs.Rows.{lay-set, lay-same, lay-blank}
+use Rattle.tree.proofs.TableRows.{lay-set, lay-same, lay-blank}
 
 -- ---- leaves
 module _ (l m r : ℕ) {x : Bool} (ex : x ≡ isNobody l) where
@@ -43,6 +43,9 @@ marked n {x} k e h = rw (h, e) refl
 pub held-ok : {ns : List Node} {len : ℕ} {a : List ℕ} → Held ns len a → len ≤ mostIdentifiers → (length ns ≡ len) × (a ≡ lay ns)
 held-ok (held b e q) h = (e, q)
 held-ok (tooMany b e) h = absurd (omega arith)
+
+pub held-lays : {ns : List Node} {len : ℕ} {a : List ℕ} → Held ns len a → len ≤ mostIdentifiers → Lays ns a
+held-lays p h = let k = held-ok p h in record { fits = omega (arith, k .0, h); laid = k .1 }
 
 pub held-fits : {ns : List Node} {len : ℕ} {a : List ℕ} → Held ns len a → length ns ≤ mostIdentifiers → len ≤ mostIdentifiers
 held-fits (held b e q) h = b

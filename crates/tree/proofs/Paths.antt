@@ -1,7 +1,7 @@
 -- Paths, walked from the leaf up, and leaves, walked from a node down.
 use Prim.Native.Nat.{ℕ, zero, suc, _+_, _-_, _<_, _≤_}
 use mathlib.Core.Path.{_≡_, refl, sym, ap, _∙_, subst}
-use mathlib.Core.Bool.{Bool, true, false, _||_}
+use mathlib.Core.Bool.{Bool, true, false, cond, _||_}
 use mathlib.Core.List.{List, [], _∷_, _++_, append-assoc, append-nil}
 use native.Mathlib.Omega.{arith}
 use native.Mathlib.Numerals.{sub-one}
@@ -13,9 +13,11 @@ use Rattle.definition.specs.Lists.{any, filter}
 use Rattle.definition.specs.Records.{nobody, isNobody}
 use Rattle.definition.specs.Tree.{Node, Place, Root, Left, Middle, Right, Unplaced, Children, newNode, nodeAt, isContradictory, isLeaf, only, leavesBelow, upward, leaves, path}
 use Rattle.definition.specs.Subtree.{takes}
-use Rattle.definition.proofs.Treed.{placed, Treed}
-use Rattle.definition.proofs.Takers.{closed}
-use Rattle.definition.proofs.Below.{openBelow, takers-out, takers-closed, takers-below}
+use Rattle.definition.proofs.Basics.Lists.{true-false}
+use Rattle.definition.specs.TreeShape.{placed, Treed}
+use Rattle.definition.proofs.Paths.Takers.{closed}
+use Rattle.definition.specs.Shortcuts.{openBelow}
+use Rattle.definition.proofs.Engine.BelowTarget.{takers-out, takers-closed, takers-below}
 use Rattle.tree.specs.Lay.{placeCode}
 
 -- ---- from the leaf up
@@ -32,34 +34,39 @@ pub up-node : (t : List Node) (d x : ℕ) → isNobody x ≡ false → upward (s
 unfolding upward
 up-node t d x e = rw e refl
 
--- a loop that looks for a node which passes the test: what is left of the path says what the whole path says
-pub climb-start : (t : List Node) (p : ℕ → Bool) (len x : ℕ) → length t ≡ len → any p (upward (len - 0) t x) ≡ any p (path t x)
+-- A climb: a loop that goes from x up, parent by parent, for at most len turns. `left` is what it is after, told of what is left of the
+-- path; that is the same at every turn.
+pub climb-start : {G : Type 0} (t : List Node) (left : List ℕ → G) (len x : ℕ) → length t ≡ len → left (upward (len - 0) t x) ≡ left (path t x)
 unfolding path
-climb-start t p len x e = ap (λ (d : ℕ). any p (upward d t x)) (omega arith)
+climb-start t left len x e = ap (λ (d : ℕ). left (upward d t x)) (omega arith)
 
-module _ (t : List Node) (p : ℕ → Bool) {goal : Bool} (len k cur : ℕ) (inv : any p (upward (len - k) t cur) ≡ goal) where
-  pub climb-none : {b : Bool} → b ≡ isNobody cur → b ≡ true → false ≡ goal
-  climb-none e h = ap (any p) (sym (up-nobody t (len - k) cur (sym e ∙ h))) ∙ inv
+module _ {G : Type 0} (t : List Node) (left : List ℕ → G) {goal : G} (len k cur : ℕ) (inv : left (upward (len - k) t cur) ≡ goal) where
+  pub climb-none : {b : Bool} → b ≡ isNobody cur → b ≡ true → left [] ≡ goal
+  climb-none e h = ap left (sym (up-nobody t (len - k) cur (sym e ∙ h))) ∙ inv
 
-  pub climb-end : len ≤ k → false ≡ goal
+  pub climb-end : len ≤ k → left [] ≡ goal
   climb-end h =
       let z : len - k ≡ 0 = omega arith in
-      ap (any p) (sym (ap (λ (d : ℕ). upward d t cur) z ∙ up-zero t cur)) ∙ inv
+      ap left (sym (ap (λ (d : ℕ). upward d t cur) z ∙ up-zero t cur)) ∙ inv
 
-  module _ {b : Bool} (h : k < len) (e : b ≡ isNobody cur) (node : b ≡ false) where
-    further : (p cur || any p (upward (len - (k + 1)) t (nodeAt t cur .parent))) ≡ goal
-    further =
-        let z : len - k ≡ suc (len - (k + 1)) = omega arith in
-        ap (any p) (sym (ap (λ (d : ℕ). upward d t cur) z ∙ up-node t (len - (k + 1)) cur (sym e ∙ node))) ∙ inv
+  pub climb-next : {b : Bool} → k < len → b ≡ isNobody cur → b ≡ false → (up : ℕ) → up ≡ nodeAt t cur .parent → left (cur ∷ upward (len - (k + 1)) t up) ≡ goal
+  climb-next h e node up u =
+      let z : len - k ≡ suc (len - (k + 1)) = omega arith in
+      ap (λ (x : ℕ). left (cur ∷ upward (len - (k + 1)) t x)) u
+      ∙ ap left (sym (ap (λ (d : ℕ). upward d t cur) z ∙ up-node t (len - (k + 1)) cur (sym e ∙ node))) ∙ inv
 
-    pub climb-hit : {v : Bool} → v ≡ p cur → v ≡ true → true ≡ goal
-    climb-hit q s = ap (λ (w : Bool). w || any p (upward (len - (k + 1)) t (nodeAt t cur .parent))) (sym (sym q ∙ s)) ∙ further
+-- a climb that looks for a node which passes the test
+module _ (t : List Node) (p : ℕ → Bool) {goal : Bool} (len k cur : ℕ) (inv : any p (upward (len - k) t cur) ≡ goal) {b : Bool} (h : k < len) (e : b ≡ isNobody cur) (node : b ≡ false)
+    {v : Bool} (q : v ≡ p cur) where
+  pub climb-hit : v ≡ true → true ≡ goal
+  climb-hit s = ap (λ (w : Bool). w || any p (upward (len - (k + 1)) t (nodeAt t cur .parent))) (sym (sym q ∙ s)) ∙ climb-next t (any p) len k cur inv h e node (nodeAt t cur .parent) refl
 
-    pub climb-next : {v : Bool} (up : ℕ) → v ≡ p cur → v ≡ false → up ≡ nodeAt t cur .parent → any p (upward (len - (k + 1)) t up) ≡ goal
-    climb-next up q s u =
-        ap (λ (x : ℕ). any p (upward (len - (k + 1)) t x)) u
-        ∙ ap (λ (w : Bool). w || any p (upward (len - (k + 1)) t (nodeAt t cur .parent))) (sym (sym q ∙ s))
-        ∙ further
+  pub climb-miss : v ≡ false → (up : ℕ) → up ≡ nodeAt t cur .parent → any p (upward (len - (k + 1)) t up) ≡ goal
+  climb-miss s up u = ap (λ (w : Bool). w || any p (upward (len - (k + 1)) t up)) (sym (sym q ∙ s)) ∙ climb-next t (any p) len k cur inv h e node up u
+
+-- what a climb of `path_is_contradictory` looks for
+abbrev pub closes : List Node → ℕ → Bool
+closes t x = isContradictory (nodeAt t x)
 
 -- ---- lists
 pub listed-as : {n : ℕ} {a l : List ℕ} (m : List ℕ) → l ≡ m → Listed l n a → Listed m n a
@@ -91,75 +98,70 @@ nobody-leaf t x h e =
     let q = eqb-true x nobody e in
     ap (λ (n : Node). isLeaf (n .children)) (List·getD-eq-default t (newNode nobody nobody nobody) {n = x} (omega (arith, q)))
 
-module _ (t : List Node) (d x : ℕ) (k : List ℕ) {n : ℕ} {a : List ℕ} {b : Bool} (e : b ≡ isNobody x) where
-  pub walk-none : length t ≤ mostIdentifiers → b ≡ true → Listed k n a → Listed (k ++ leavesBelow d t x) n a
-  unfolding leavesBelow only
-  walk-none h q = listed-more k (leavesBelow d t x) (go d)
-    where
-      go : (m : ℕ) → leavesBelow m t x ≡ []
-      go zero = rw (← e, q) refl
-      go (suc m) = rw (nobody-leaf t x h (sym e ∙ q), ← e, q) refl
+-- A walk down: W gives the leaves at and below a node, left, then middle, then right, but none at or below a node that is shut.
+pub record Walks (t : List Node) (shut : ℕ → Bool) (W : ℕ → ℕ → List ℕ) : Type 0 where
+  pub nobody-below : (d x : ℕ) → isNobody x ≡ true → W d x ≡ []
+  pub shut-below : (d x : ℕ) → isNobody x ≡ false → shut x ≡ true → W d x ≡ []
+  pub at-end : (x : ℕ) → isNobody x ≡ false → shut x ≡ false → W 0 x ≡ x ∷ []
+  pub at-node : (d x : ℕ) → isNobody x ≡ false → shut x ≡ false → let c = nodeAt t x .children in W (suc d) x ≡ cond (isLeaf c) (x ∷ []) (W d (c .left) ++ (W d (c .middle) ++ W d (c .right)))
 
-  pub walk-end : b ≡ false → d ≡ 0 → Listed (k ++ (x ∷ [])) n a → Listed (k ++ leavesBelow d t x) n a
-  unfolding leavesBelow only
-  walk-end q z = listed-as (k ++ leavesBelow d t x) (ap (λ (v : List ℕ). k ++ v) (rw (z, ← e, q) refl))
+-- all the leaves
+pub leaves-walk : (t : List Node) → length t ≤ mostIdentifiers → Walks t (λ x. false) (λ d x. leavesBelow d t x)
+unfolding leavesBelow only
+leaves-walk t h = record { nobody-below = none; shut-below = λ d x e s. true-false (sym s); at-end = λ x e s. rw e refl; at-node = λ d x e s. rw e refl }
+  where
+    none : (d x : ℕ) → isNobody x ≡ true → leavesBelow d t x ≡ []
+    none zero x e = rw e refl
+    none (suc d) x e = rw (nobody-leaf t x h e, e) refl
 
-  pub open-none : b ≡ true → Listed k n a → Listed (k ++ openBelow d t x) n a
-  unfolding openBelow
-  open-none q = listed-more k (openBelow d t x) (go d)
-    where
-      go : (m : ℕ) → openBelow m t x ≡ []
-      go zero = rw (← e, q) refl
-      go (suc m) = rw (← e, q) refl
+-- those below no contradictory node
+pub open-walk : (t : List Node) → Walks t (closes t) (λ d x. openBelow d t x)
+unfolding openBelow
+open-walk t = record { nobody-below = none; shut-below = shut; at-end = λ x e s. rw (e, s) refl; at-node = λ d x e s. rw (e, s) refl }
+  where
+    none : (d x : ℕ) → isNobody x ≡ true → openBelow d t x ≡ []
+    none zero x e = rw e refl
+    none (suc d) x e = rw e refl
 
-  module _ (q : b ≡ false) {c : Bool} (f : c ≡ isContradictory (nodeAt t x)) where
-    pub open-closed : c ≡ true → Listed k n a → Listed (k ++ openBelow d t x) n a
-    unfolding openBelow
-    open-closed y = listed-more k (openBelow d t x) (go d)
-      where
-        go : (m : ℕ) → openBelow m t x ≡ []
-        go zero = rw (← e, q, ← f, y) refl
-        go (suc m) = rw (← e, q, ← f, y) refl
+    shut : (d x : ℕ) → isNobody x ≡ false → closes t x ≡ true → openBelow d t x ≡ []
+    shut zero x e s = rw (e, s) refl
+    shut (suc d) x e s = rw (e, s) refl
 
-    pub open-end : c ≡ false → d ≡ 0 → Listed (k ++ (x ∷ [])) n a → Listed (k ++ openBelow d t x) n a
-    unfolding openBelow
-    open-end y z = listed-as (k ++ openBelow d t x) (ap (λ (v : List ℕ). k ++ v) (rw (z, ← e, q, ← f, y) refl))
+-- what a walk has listed, turn by turn
+module _ {t : List Node} {shut : ℕ → Bool} {W : ℕ → ℕ → List ℕ} (walk : Walks t shut W) (d x : ℕ) (k : List ℕ) {b : Bool} (e : b ≡ isNobody x) where
+  pub walk-none : {n : ℕ} {a : List ℕ} → b ≡ true → Listed k n a → Listed (k ++ W d x) n a
+  walk-none q = listed-more k (W d x) (walk .nobody-below d x (sym e ∙ q))
 
-  -- the children of x, read once
-  module _ {v : Bool} (l m r : ℕ) (el : l ≡ nodeAt t x .children .left) (em : m ≡ nodeAt t x .children .middle) (er : r ≡ nodeAt t x .children .right)
-      (w : v ≡ isLeaf (record { left = l; middle = m; right = r })) where
-    pub walk-leaf : b ≡ false → v ≡ true → Listed (k ++ (x ∷ [])) n a → Listed (k ++ leavesBelow d t x) n a
-    unfolding leavesBelow only
-    walk-leaf q y = listed-as (k ++ leavesBelow d t x) (ap (λ (z : List ℕ). k ++ z) (sym (go d)))
-      where
-        go : (j : ℕ) → leavesBelow j t x ≡ x ∷ []
-        go zero = rw (← e, q) refl
-        go (suc j) = rw (leaf-as (nodeAt t x .children) l m r el em er w, y, ← e, q) refl
+  module _ (q : b ≡ false) {c : Bool} (f : c ≡ shut x) where
+    pub walk-shut : {n : ℕ} {a : List ℕ} → c ≡ true → Listed k n a → Listed (k ++ W d x) n a
+    walk-shut u = listed-more k (W d x) (walk .shut-below d x (sym e ∙ q) (sym f ∙ u))
 
-    pub walk-deep : (d ≡ 0 → ⊥) → v ≡ false → Listed (((k ++ leavesBelow (d - 1) t l) ++ leavesBelow (d - 1) t m) ++ leavesBelow (d - 1) t r) n a → Listed (k ++ leavesBelow d t x) n a
-    unfolding leavesBelow
-    walk-deep z y = listed-as (k ++ leavesBelow d t x) (three-appended k (leavesBelow (d - 1) t l) (leavesBelow (d - 1) t m) (leavesBelow (d - 1) t r) (leavesBelow d t x) (go d z))
-      where
-        go : (j : ℕ) → (j ≡ 0 → ⊥) → leavesBelow (j - 1) t l ++ (leavesBelow (j - 1) t m ++ leavesBelow (j - 1) t r) ≡ leavesBelow j t x
-        go zero z = absurd (z refl)
-        go (suc j) z = rw (leaf-as (nodeAt t x .children) l m r el em er w, y, ← el, ← em, ← er, sub-one) refl
+    module _ (u : c ≡ false) where
+      ends : W 0 x ≡ x ∷ []
+      ends = walk .at-end x (sym e ∙ q) (sym f ∙ u)
 
-    module _ (q : b ≡ false) {c : Bool} (f : c ≡ isContradictory (nodeAt t x)) (u : c ≡ false) where
-      pub open-leaf : v ≡ true → Listed (k ++ (x ∷ [])) n a → Listed (k ++ openBelow d t x) n a
-      unfolding openBelow
-      open-leaf y = listed-as (k ++ openBelow d t x) (ap (λ (z : List ℕ). k ++ z) (sym (go d)))
-        where
-          go : (j : ℕ) → openBelow j t x ≡ x ∷ []
-          go zero = rw (← e, q, ← f, u) refl
-          go (suc j) = rw (leaf-as (nodeAt t x .children) l m r el em er w, y, ← e, q, ← f, u) refl
+      pub walk-end : {n : ℕ} {a : List ℕ} → d ≡ 0 → Listed (k ++ (x ∷ [])) n a → Listed (k ++ W d x) n a
+      walk-end z = listed-as (k ++ W d x) (ap (λ (v : List ℕ). k ++ v) (sym (ap (λ (j : ℕ). W j x) z ∙ ends)))
 
-      pub open-deep : (d ≡ 0 → ⊥) → v ≡ false → Listed (((k ++ openBelow (d - 1) t l) ++ openBelow (d - 1) t m) ++ openBelow (d - 1) t r) n a → Listed (k ++ openBelow d t x) n a
-      unfolding openBelow
-      open-deep z y = listed-as (k ++ openBelow d t x) (three-appended k (openBelow (d - 1) t l) (openBelow (d - 1) t m) (openBelow (d - 1) t r) (openBelow d t x) (go d z))
-        where
-          go : (j : ℕ) → (j ≡ 0 → ⊥) → openBelow (j - 1) t l ++ (openBelow (j - 1) t m ++ openBelow (j - 1) t r) ≡ openBelow j t x
-          go zero z = absurd (z refl)
-          go (suc j) z = rw (leaf-as (nodeAt t x .children) l m r el em er w, y, ← e, q, ← f, u, ← el, ← em, ← er, sub-one) refl
+      -- the children of x, read once
+      module _ {v : Bool} (l m r : ℕ) (el : l ≡ nodeAt t x .children .left) (em : m ≡ nodeAt t x .children .middle) (er : r ≡ nodeAt t x .children .right)
+          (w : v ≡ isLeaf (record { left = l; middle = m; right = r })) where
+        forks : (j : ℕ) → W (suc j) x ≡ cond v (x ∷ []) (W j l ++ (W j m ++ W j r))
+        forks j = walk .at-node j x (sym e ∙ q) (sym f ∙ u) ∙ rw (leaf-as (nodeAt t x .children) l m r el em er w, el, em, er) refl
+
+        pub walk-leaf : {n : ℕ} {a : List ℕ} → v ≡ true → Listed (k ++ (x ∷ [])) n a → Listed (k ++ W d x) n a
+        walk-leaf y = listed-as (k ++ W d x) (ap (λ (z : List ℕ). k ++ z) (sym (go d)))
+          where
+            go : (j : ℕ) → W j x ≡ x ∷ []
+            go zero = ends
+            go (suc j) = forks j ∙ rw y refl
+
+        pub walk-deep : {n : ℕ} {a : List ℕ} → (d ≡ 0 → ⊥) → v ≡ false → Listed (((k ++ W (d - 1) l) ++ W (d - 1) m) ++ W (d - 1) r) n a → Listed (k ++ W d x) n a
+        walk-deep z y = listed-as (k ++ W d x) (three-appended k (W (d - 1) l) (W (d - 1) m) (W (d - 1) r) (W d x) (go d z))
+          where
+            go : (j : ℕ) → (j ≡ 0 → ⊥) → W (j - 1) l ++ (W (j - 1) m ++ W (j - 1) r) ≡ W j x
+            go zero z = absurd (z refl)
+            go (suc j) z = rw sub-one (sym (forks j ∙ rw y refl))
 
 -- ---- the leaves that take what goes below the target
 -- no place is no place in the tree

@@ -53,18 +53,18 @@ module _ (R : RattleType) (h : R .Denot) (b ν : ℕ) (δ : GName) where
   abbrev pub Reference : Fml
   Reference = MutRef (named 0) (ν ∷ []) R .own (record { ptr = (b, 0); name = δ; now = h }) (vptr b 0 ∷ [])
 
-abbrev pub Kept : RattleType → ℕ → ℕ → GName → Fml
-Kept R b ν δ = flent (ν ∷ []) (Body (mem R) b 0 δ)
+abbrev pub LentBody : RattleType → ℕ → ℕ → GName → Fml
+LentBody R b ν δ = flent (ν ∷ []) (Body (mem R) b 0 δ)
 
 module _ {M : Type 1} {𝓤 : URA M} {H : Heap 𝓤} {A : Atoms 𝓤} {K : Type 0} {W : Given 𝓤 H A} {Γ : List (Item 𝓤)} {G : Goal 𝓤 H} where
   pub lends-local : K → Soaks G → (R : RattleType) {τ : Ty} → R .mir ≡ τ ∷ [] → Makes 𝓤 H A R (Is R) → (h : R .Denot) {v : Val} {b : ℕ} → Is R h (v ∷ [])
-      → ((ν : ℕ) (δ : GName) → Seq K W (‵ (flft (ν ∷ []) fullShare) ∷ ‵ (Reference R h b ν δ) ∷ ‵ (Kept R b ν δ) ∷ Γ) G) → Seq K W (‵ (fat fullShare τ b 0 v) ∷ Γ) G
+      → ((ν : ℕ) (δ : GName) → Seq K W (‵ (flft (ν ∷ []) fullShare) ∷ ‵ (Reference R h b ν δ) ∷ ‵ (LentBody R b ν δ) ∷ Γ) G) → Seq K W (‵ (fat fullShare τ b 0 v) ∷ Γ) G
   lends-local t z R {τ} one mk h {v} {b} is k =
       use1 W (‵ (mem R .lies h b 0)) (lies-in 𝓤 H A W R τ one h b mk v is) $ lft-new t z (λ ν. move t (1 ∷ []) $
-      use1 W (later (some (λ (δ : GName). ‵ (Reference R h b ν δ) ⊛ ‵ (Kept R b ν δ)))) (lends-ref 𝓤 H A W R (named 0) (ν ∷ []) h b 0) $ await t z $ pick t (λ δ. split t $ move t (2 ∷ 0 ∷ 1 ∷ []) $ k ν δ))
+      use1 W (later (some (λ (δ : GName). ‵ (Reference R h b ν δ) ⊛ ‵ (LentBody R b ν δ)))) (lends-ref 𝓤 H A W R (named 0) (ν ∷ []) h b 0) $ await t z $ pick t (λ δ. split t $ move t (2 ∷ 0 ∷ 1 ∷ []) $ k ν δ))
 
   pub local-back : K → Soaks G → (R : RattleType) {τ : Ty} → R .mir ≡ τ ∷ [] → (mach : R .Denot → Val) → Tells R (Is R) (λ u. mach u ∷ []) → (h : R .Denot) {b ν : ℕ} {δ : GName}
-      → (Is R h (mach h ∷ []) → Seq K W (‵ (fat fullShare τ b 0 (mach h)) ∷ Γ) G) → Seq K W (‵ (flft (ν ∷ []) fullShare) ∷ ‵ (Kept R b ν δ) ∷ ‵ (fres δ (R .coded .code h)) ∷ Γ) G
+      → (Is R h (mach h ∷ []) → Seq K W (‵ (fat fullShare τ b 0 (mach h)) ∷ Γ) G) → Seq K W (‵ (flft (ν ∷ []) fullShare) ∷ ‵ (LentBody R b ν δ) ∷ ‵ (fres δ (R .coded .code h)) ∷ Γ) G
   local-back t z R {τ} one mach tl h {b} {ν} {δ} k =
       lft-end t z $ use3 W (later (‵ (mem R .lies h b 0))) (ref-back 𝓤 H A W R (ν ∷ []) δ h b 0) $ await t z $
       use1 W (given (Is R h (mach h ∷ [])) (‵ (fat fullShare τ b 0 (mach h)))) (lies-out 𝓤 H A W R τ one h b mach tl) $ learn t k

@@ -23,8 +23,8 @@ abbrev pub emptyChain : Chain
 emptyChain = risingChain 0 0
 
 -- each of them is below m
-abbrev pub Below : Chain → ℕ → Type 0
-Below c m = c .start .0 + c .count ≤ m
+abbrev pub ChainBelow : Chain → ℕ → Type 0
+ChainBelow c m = c .start .0 + c .count ≤ m
 
 -- the numbers from lo on, up to hi, the first on top; a chain of none starts nowhere in particular
 pub record Spans (c : Chain) (lo hi : ℕ) : Type 0 where

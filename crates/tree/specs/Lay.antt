@@ -33,6 +33,11 @@ row n =
 unfoldable pub lay : List Node → List ℕ
 lay ns = concatMap row ns ++ replicate ((mostIdentifiers - length ns) * nodeFields) nobody
 
+-- the table holds the nodes
+pub record Lays (ns : List Node) (a : List ℕ) : Type 0 where
+  pub fits : length ns ≤ mostIdentifiers
+  pub laid : a ≡ lay ns
+
 -- the table holds the nodes, and len is their count; a count above `mostIdentifiers` says that there are too many, and nothing of the table
 pub data Held (ns : List Node) (len : ℕ) (a : List ℕ) : Type 0 where
   held : len ≤ mostIdentifiers → length ns ≡ len → a ≡ lay ns → Held ns len a

@@ -1,5 +1,4 @@
 // The nodes of the proof tree, nine numbers to a node, in one lent array; paths and their leaves.
-// Of a call whose arrays lay out nothing of the kind that its contract names: it ends and stays in bounds; its outcome is free.
 use arrays::push;
 use formula::FormulaNumber;
 use graph::PossibleWorld;
@@ -21,10 +20,10 @@ ghost use Rattle.definition.specs.Lists.{any, filter};
 ghost use Rattle.definition.specs.Records.{nobody, isNobody};
 ghost use Rattle.definition.specs.Tree.{Node, Place, nodeAt, newNode, markedAgainst, isContradictory, change, link, linkChain, isLeaf, leavesBelow, leaves, path};
 ghost use Rattle.definition.specs.Subtree.{takes};
-ghost use Rattle.definition.proofs.Treed.{Treed};
-ghost use Rattle.definition.proofs.Below.{openBelow};
-ghost use Rattle.tree.specs.Lay.{placeCode, row, lay, Held};
-ghost use Rattle.tree.specs.Chain.{chainOf, Below, Spans, DrawnFrom};
+ghost use Rattle.definition.specs.TreeShape.{Treed};
+ghost use Rattle.definition.specs.Shortcuts.{openBelow};
+ghost use Rattle.tree.specs.Lay.{placeCode, row, Lays, Held};
+ghost use Rattle.tree.specs.Chain.{chainOf, ChainBelow, Spans, DrawnFrom};
 ghost use Rattle.tree.specs.Sequence.{idAt, countAfter, Draws};
 
 pub struct ProofTreeNodeID(pub u16);
@@ -162,84 +161,121 @@ fn extended(c: Chain, id: ProofTreeNodeID) -> Chain
     }
 }
 
-// Number j of the row of node x; 65535 where there is none.
-fn field(tree: &Nodes, x: ProofTreeNodeID, j: usize) -> u16
-    ensures { λ r. ⌜ ((ns : List Node) → length ns ≤ mostIdentifiers → now (tree .entry) ≡ lay ns → r ≡ getD (row (nodeAt ns (x .0))) j 65535) ⌝ }
+// The numbers of a node's row.
+const PARENT: usize = 0;
+
+const PLACE: usize = 1;
+
+const WORLD: usize = 2;
+
+const FORMULA: usize = 3;
+
+const SPAWNER: usize = 4;
+
+const CONTRARIAN: usize = 5;
+
+// The child at a place is number CHILD + place.
+const CHILD: usize = 5;
+
+const LEFT: usize = 6;
+
+const MIDDLE: usize = 7;
+
+const RIGHT: usize = 8;
+
+// The places of a node, as they stand in its row.
+pub const PLACE_ROOT: u16 = 0;
+
+pub const PLACE_LEFT: u16 = 1;
+
+pub const PLACE_MIDDLE: u16 = 2;
+
+pub const PLACE_RIGHT: u16 = 3;
+
+// What stands in each place of a row that has no node.
+pub const NO_NUMBER: u16 = 65535;
+
+// Not in the tree.
+pub const PLACE_UNPLACED: u16 = NO_NUMBER;
+
+// Number j of the row of node x; NO_NUMBER where there is none.
+fn field(nodes: &Nodes, x: ProofTreeNodeID, j: usize) -> u16
+    ensures { λ r. ⌜ ((ns : List Node) → Lays ns (now (nodes .entry)) → r ≡ getD (row (nodeAt ns (x .0))) j 65535) ⌝ }
 {
     let i = x.0 as usize;
     if MOST_IDENTIFIERS <= i {
-        return 65535;
+        return NO_NUMBER;
     }
     if NODE_FIELDS <= j {
-        return 65535;
+        return NO_NUMBER;
     }
-    tree[i * NODE_FIELDS + j]
+    nodes[i * NODE_FIELDS + j]
 }
 
-pub fn parent_of(tree: &Nodes, x: ProofTreeNodeID) -> ProofTreeNodeID
-    ensures { λ r. ⌜ ((ns : List Node) → length ns ≤ mostIdentifiers → now (tree .entry) ≡ lay ns → r .0 ≡ nodeAt ns (x .0) .parent) ⌝ }
+pub fn parent_of(nodes: &Nodes, x: ProofTreeNodeID) -> ProofTreeNodeID
+    ensures { λ r. ⌜ ((ns : List Node) → Lays ns (now (nodes .entry)) → r .0 ≡ nodeAt ns (x .0) .parent) ⌝ }
 {
-    ProofTreeNodeID(field(tree, x, 0))
+    ProofTreeNodeID(field(nodes, x, PARENT))
 }
 
-// Root 0, left 1, middle 2, right 3; 65535 if it is not in the tree.
-pub fn place_of(tree: &Nodes, x: ProofTreeNodeID) -> u16
-    ensures { λ r. ⌜ ((ns : List Node) → length ns ≤ mostIdentifiers → now (tree .entry) ≡ lay ns → r ≡ placeCode (nodeAt ns (x .0) .place)) ⌝ }
+// A place; PLACE_UNPLACED if it is not in the tree.
+pub fn place_of(nodes: &Nodes, x: ProofTreeNodeID) -> u16
+    ensures { λ r. ⌜ ((ns : List Node) → Lays ns (now (nodes .entry)) → r ≡ placeCode (nodeAt ns (x .0) .place)) ⌝ }
 {
-    field(tree, x, 1)
+    field(nodes, x, PLACE)
 }
 
-pub fn world_of(tree: &Nodes, x: ProofTreeNodeID) -> PossibleWorld
-    ensures { λ r. ⌜ ((ns : List Node) → length ns ≤ mostIdentifiers → now (tree .entry) ≡ lay ns → r .0 ≡ nodeAt ns (x .0) .world) ⌝ }
+pub fn world_of(nodes: &Nodes, x: ProofTreeNodeID) -> PossibleWorld
+    ensures { λ r. ⌜ ((ns : List Node) → Lays ns (now (nodes .entry)) → r .0 ≡ nodeAt ns (x .0) .world) ⌝ }
 {
-    PossibleWorld(field(tree, x, 2))
+    PossibleWorld(field(nodes, x, WORLD))
 }
 
-pub fn formula_of(tree: &Nodes, x: ProofTreeNodeID) -> FormulaNumber
-    ensures { λ r. ⌜ ((ns : List Node) → length ns ≤ mostIdentifiers → now (tree .entry) ≡ lay ns → r .0 ≡ nodeAt ns (x .0) .formula) ⌝ }
+pub fn formula_of(nodes: &Nodes, x: ProofTreeNodeID) -> FormulaNumber
+    ensures { λ r. ⌜ ((ns : List Node) → Lays ns (now (nodes .entry)) → r .0 ≡ nodeAt ns (x .0) .formula) ⌝ }
 {
-    FormulaNumber(field(tree, x, 3))
+    FormulaNumber(field(nodes, x, FORMULA))
 }
 
-pub fn spawner_of(tree: &Nodes, x: ProofTreeNodeID) -> ProofTreeNodeID
-    ensures { λ r. ⌜ ((ns : List Node) → length ns ≤ mostIdentifiers → now (tree .entry) ≡ lay ns → r .0 ≡ nodeAt ns (x .0) .spawner) ⌝ }
+pub fn spawner_of(nodes: &Nodes, x: ProofTreeNodeID) -> ProofTreeNodeID
+    ensures { λ r. ⌜ ((ns : List Node) → Lays ns (now (nodes .entry)) → r .0 ≡ nodeAt ns (x .0) .spawner) ⌝ }
 {
-    ProofTreeNodeID(field(tree, x, 4))
+    ProofTreeNodeID(field(nodes, x, SPAWNER))
 }
 
-pub fn contrarian_of(tree: &Nodes, x: ProofTreeNodeID) -> ProofTreeNodeID
-    ensures { λ r. ⌜ ((ns : List Node) → length ns ≤ mostIdentifiers → now (tree .entry) ≡ lay ns → r .0 ≡ nodeAt ns (x .0) .contrarian) ⌝ }
+pub fn contrarian_of(nodes: &Nodes, x: ProofTreeNodeID) -> ProofTreeNodeID
+    ensures { λ r. ⌜ ((ns : List Node) → Lays ns (now (nodes .entry)) → r .0 ≡ nodeAt ns (x .0) .contrarian) ⌝ }
 {
-    ProofTreeNodeID(field(tree, x, 5))
+    ProofTreeNodeID(field(nodes, x, CONTRARIAN))
 }
 
-pub fn left_of(tree: &Nodes, x: ProofTreeNodeID) -> ProofTreeNodeID
-    ensures { λ r. ⌜ ((ns : List Node) → length ns ≤ mostIdentifiers → now (tree .entry) ≡ lay ns → r .0 ≡ nodeAt ns (x .0) .children .left) ⌝ }
+pub fn left_of(nodes: &Nodes, x: ProofTreeNodeID) -> ProofTreeNodeID
+    ensures { λ r. ⌜ ((ns : List Node) → Lays ns (now (nodes .entry)) → r .0 ≡ nodeAt ns (x .0) .children .left) ⌝ }
 {
-    ProofTreeNodeID(field(tree, x, 6))
+    ProofTreeNodeID(field(nodes, x, LEFT))
 }
 
-pub fn middle_of(tree: &Nodes, x: ProofTreeNodeID) -> ProofTreeNodeID
-    ensures { λ r. ⌜ ((ns : List Node) → length ns ≤ mostIdentifiers → now (tree .entry) ≡ lay ns → r .0 ≡ nodeAt ns (x .0) .children .middle) ⌝ }
+pub fn middle_of(nodes: &Nodes, x: ProofTreeNodeID) -> ProofTreeNodeID
+    ensures { λ r. ⌜ ((ns : List Node) → Lays ns (now (nodes .entry)) → r .0 ≡ nodeAt ns (x .0) .children .middle) ⌝ }
 {
-    ProofTreeNodeID(field(tree, x, 7))
+    ProofTreeNodeID(field(nodes, x, MIDDLE))
 }
 
-pub fn right_of(tree: &Nodes, x: ProofTreeNodeID) -> ProofTreeNodeID
-    ensures { λ r. ⌜ ((ns : List Node) → length ns ≤ mostIdentifiers → now (tree .entry) ≡ lay ns → r .0 ≡ nodeAt ns (x .0) .children .right) ⌝ }
+pub fn right_of(nodes: &Nodes, x: ProofTreeNodeID) -> ProofTreeNodeID
+    ensures { λ r. ⌜ ((ns : List Node) → Lays ns (now (nodes .entry)) → r .0 ≡ nodeAt ns (x .0) .children .right) ⌝ }
 {
-    ProofTreeNodeID(field(tree, x, 8))
+    ProofTreeNodeID(field(nodes, x, RIGHT))
 }
 
-pub fn is_contradictory(tree: &Nodes, x: ProofTreeNodeID) -> bool
-    ensures { λ r. ⌜ ((ns : List Node) → length ns ≤ mostIdentifiers → now (tree .entry) ≡ lay ns → r ≡ isContradictory (nodeAt ns (x .0))) ⌝ }
+pub fn is_contradictory(nodes: &Nodes, x: ProofTreeNodeID) -> bool
+    ensures { λ r. ⌜ ((ns : List Node) → Lays ns (now (nodes .entry)) → r ≡ isContradictory (nodeAt ns (x .0))) ⌝ }
 {
-    !contrarian_of(tree, x).is_none()
+    !contrarian_of(nodes, x).is_none()
 }
 
 // Stores number j of the row of node x, where there is one.
-fn put_field(tree: &mut Nodes, len: usize, x: ProofTreeNodeID, j: usize, v: u16)
-    ensures { λ r. ⌜ ((ns : List Node) (f : Node → Node) → ((n : Node) → row (f n) ≡ set (row n) j v) → Held ns len (now (tree .entry)) → Held (change ns (x .0) f) len (now (tree .exit))) ⌝ }
+fn put_field(nodes: &mut Nodes, len: usize, x: ProofTreeNodeID, j: usize, v: u16)
+    ensures { λ r. ⌜ ((ns : List Node) (f : Node → Node) → ((n : Node) → row (f n) ≡ set (row n) j v) → Held ns len (now (nodes .entry)) → Held (change ns (x .0) f) len (now (nodes .exit))) ⌝ }
 {
     let i = x.0 as usize;
     if MOST_IDENTIFIERS < len {
@@ -251,40 +287,40 @@ fn put_field(tree: &mut Nodes, len: usize, x: ProofTreeNodeID, j: usize, v: u16)
     if NODE_FIELDS <= j {
         return;
     }
-    tree[i * NODE_FIELDS + j] = v;
+    nodes[i * NODE_FIELDS + j] = v;
 }
 
 // One node more, not in the tree yet: its identifier, and the count with it; none and FULL where there is no room.
 pub fn new_node(
-    tree: &mut Nodes,
+    nodes: &mut Nodes,
     len: usize,
     spawner: ProofTreeNodeID,
     formula: FormulaNumber,
     world: PossibleWorld,
 ) -> Issued
-    ensures { λ r. ⌜ Draws len r × ((ns : List Node) → Held ns len (now (tree .entry)) → Held (ns ++ (newNode (spawner .0) (formula .0) (world .0) ∷ [])) (r .len) (now (tree .exit))) ⌝ }
+    ensures { λ r. ⌜ Draws len r × ((ns : List Node) → Held ns len (now (nodes .entry)) → Held (ns ++ (newNode (spawner .0) (formula .0) (world .0) ∷ [])) (r .len) (now (nodes .exit))) ⌝ }
 {
     let drawn = new_node_id(len);
     let x = drawn.id;
     let count = drawn.len;
-    put_field(tree, count, x, 2, world.0);
-    put_field(tree, count, x, 3, formula.0);
-    put_field(tree, count, x, 4, spawner.0);
+    put_field(nodes, count, x, WORLD, world.0);
+    put_field(nodes, count, x, FORMULA, formula.0);
+    put_field(nodes, count, x, SPAWNER, spawner.0);
     drawn
 }
 
 // One node more, whose identifier goes to the lower end of the chain.
 pub fn extend(
-    tree: &mut Nodes,
+    nodes: &mut Nodes,
     here: IssuedChain,
     spawner: ProofTreeNodeID,
     formula: FormulaNumber,
     world: PossibleWorld,
 ) -> IssuedChain
     ensures { λ r. ⌜ ((lo : ℕ) → DrawnFrom lo here → DrawnFrom lo r)
-        × ((ns : List Node) → Held ns (here .len) (now (tree .entry)) → Held (ns ++ (newNode (spawner .0) (formula .0) (world .0) ∷ [])) (r .len) (now (tree .exit))) ⌝ }
+        × ((ns : List Node) → Held ns (here .len) (now (nodes .entry)) → Held (ns ++ (newNode (spawner .0) (formula .0) (world .0) ∷ [])) (r .len) (now (nodes .exit))) ⌝ }
 {
-    let drawn = new_node(tree, here.len, spawner, formula, world);
+    let drawn = new_node(nodes, here.len, spawner, formula, world);
     let before = here.chain;
     let id = drawn.id;
     IssuedChain {
@@ -295,7 +331,7 @@ pub fn extend(
 
 // The same, if the node is to be made.
 pub fn extend_if(
-    tree: &mut Nodes,
+    nodes: &mut Nodes,
     here: IssuedChain,
     spawner: ProofTreeNodeID,
     formula: FormulaNumber,
@@ -303,44 +339,44 @@ pub fn extend_if(
     keep: bool,
 ) -> IssuedChain
     ensures { λ r. ⌜ ((lo : ℕ) → DrawnFrom lo here → DrawnFrom lo r)
-        × ((ns : List Node) → Held ns (here .len) (now (tree .entry)) → Held (ns ++ cond keep (newNode (spawner .0) (formula .0) (world .0) ∷ []) []) (r .len) (now (tree .exit))) ⌝ }
+        × ((ns : List Node) → Held ns (here .len) (now (nodes .entry)) → Held (ns ++ cond keep (newNode (spawner .0) (formula .0) (world .0) ∷ []) []) (r .len) (now (nodes .exit))) ⌝ }
 {
     if keep {
-        return extend(tree, here, spawner, formula, world);
+        return extend(nodes, here, spawner, formula, world);
     }
     here
 }
 
 // Marks node x against its contrarian.
 pub fn mark_child_node_as_contradictory(
-    tree: &mut Nodes,
+    nodes: &mut Nodes,
     len: usize,
     x: ProofTreeNodeID,
     contrarian: ProofTreeNodeID,
 )
-    ensures { λ r. ⌜ ((ns : List Node) → Held ns len (now (tree .entry)) → Held (change ns (x .0) (markedAgainst (contrarian .0))) len (now (tree .exit))) ⌝ }
+    ensures { λ r. ⌜ ((ns : List Node) → Held ns len (now (nodes .entry)) → Held (change ns (x .0) (markedAgainst (contrarian .0))) len (now (nodes .exit))) ⌝ }
 {
-    put_field(tree, len, x, 5, contrarian.0);
+    put_field(nodes, len, x, CONTRARIAN, contrarian.0);
 }
 
-// x becomes the child of y at a place: 1 left, 2 middle, 3 right.
-fn link(tree: &mut Nodes, len: usize, y: ProofTreeNodeID, place: u16, x: ProofTreeNodeID)
-    ensures { λ r. ⌜ ((ns : List Node) (p : Place) → placeCode p ≡ place → Held ns len (now (tree .entry)) → Held (link ns (y .0) p (x .0)) len (now (tree .exit))) ⌝ }
+// x becomes the child of y at a place.
+fn link(nodes: &mut Nodes, len: usize, y: ProofTreeNodeID, place: u16, x: ProofTreeNodeID)
+    ensures { λ r. ⌜ ((ns : List Node) (p : Place) → placeCode p ≡ place → Held ns len (now (nodes .entry)) → Held (link ns (y .0) p (x .0)) len (now (nodes .exit))) ⌝ }
 {
-    put_field(tree, len, x, 0, y.0);
-    put_field(tree, len, x, 1, place);
-    put_field(tree, len, x, 6, 65535);
-    put_field(tree, len, x, 7, 65535);
-    put_field(tree, len, x, 8, 65535);
-    if place == 0 {
+    put_field(nodes, len, x, PARENT, y.0);
+    put_field(nodes, len, x, PLACE, place);
+    put_field(nodes, len, x, LEFT, ProofTreeNodeID::NONE.0);
+    put_field(nodes, len, x, MIDDLE, ProofTreeNodeID::NONE.0);
+    put_field(nodes, len, x, RIGHT, ProofTreeNodeID::NONE.0);
+    if place == PLACE_ROOT {
         return;
     }
-    put_field(tree, len, y, place as usize + 5, x.0);
+    put_field(nodes, len, y, place as usize + CHILD, x.0);
 }
 
 // Identifier k of a chain, from the top; none beyond the chain, and none of a chain that does not fit.
 pub fn chain_at(c: Chain, k: usize) -> ProofTreeNodeID
-    ensures { λ r. ⌜ (Below c mostIdentifiers → k < c .count → r .0 ≡ getD (chainOf c) k 0)
+    ensures { λ r. ⌜ (ChainBelow c mostIdentifiers → k < c .count → r .0 ≡ getD (chainOf c) k 0)
         × ((c .count ≤ k) ⊎ (mostIdentifiers < c .start .0 + c .count) → r .0 ≡ nobody) ⌝ }
 {
     let first = c.start;
@@ -359,8 +395,8 @@ pub fn chain_at(c: Chain, k: usize) -> ProofTreeNodeID
 }
 
 // The chain below y: the first at a place, each further one the middle child of the one before.
-pub fn link_chain(tree: &mut Nodes, len: usize, y: ProofTreeNodeID, place: u16, c: Chain)
-    ensures { λ r. ⌜ ((ns : List Node) (p : Place) → placeCode p ≡ place → Held ns len (now (tree .entry)) → (length ns ≤ mostIdentifiers → Below c (length ns)) → Held (linkChain ns (y .0) p (chainOf c)) len (now (tree .exit))) ⌝ }
+pub fn link_chain(nodes: &mut Nodes, len: usize, y: ProofTreeNodeID, place: u16, c: Chain)
+    ensures { λ r. ⌜ ((ns : List Node) (p : Place) → placeCode p ≡ place → Held ns len (now (nodes .entry)) → (length ns ≤ mostIdentifiers → ChainBelow c (length ns)) → Held (linkChain ns (y .0) p (chainOf c)) len (now (nodes .exit))) ⌝ }
 {
     if MOST_IDENTIFIERS < len {
         return;
@@ -371,16 +407,16 @@ pub fn link_chain(tree: &mut Nodes, len: usize, y: ProofTreeNodeID, place: u16, 
     let mut k: usize = 0;
     while k < n {
         let x = chain_at(c, k);
-        link(tree, len, above, at, x);
+        link(nodes, len, above, at, x);
         above = x;
-        at = 2;
+        at = PLACE_MIDDLE;
         k += 1;
     }
 }
 
 // The path of a leaf holds a contradictory node.
-fn path_is_contradictory(tree: &Nodes, len: usize, leaf: ProofTreeNodeID) -> bool
-    ensures { λ r. ⌜ ((ns : List Node) → length ns ≡ len → len ≤ mostIdentifiers → now (tree .entry) ≡ lay ns → r ≡ any (λ x. isContradictory (nodeAt ns x)) (path ns (leaf .0))) ⌝ }
+fn path_is_contradictory(nodes: &Nodes, len: usize, leaf: ProofTreeNodeID) -> bool
+    ensures { λ r. ⌜ ((ns : List Node) → length ns ≡ len → Lays ns (now (nodes .entry)) → r ≡ any (λ x. isContradictory (nodeAt ns x)) (path ns (leaf .0))) ⌝ }
 {
     let mut cur = leaf;
     let mut k: usize = 0;
@@ -388,10 +424,10 @@ fn path_is_contradictory(tree: &Nodes, len: usize, leaf: ProofTreeNodeID) -> boo
         if cur.is_none() {
             return false;
         }
-        if is_contradictory(tree, cur) {
+        if is_contradictory(nodes, cur) {
             return true;
         }
-        cur = parent_of(tree, cur);
+        cur = parent_of(nodes, cur);
         k += 1;
     }
     false
@@ -404,24 +440,24 @@ fn are_none(l: ProofTreeNodeID, m: ProofTreeNodeID, r: ProofTreeNodeID) -> bool
     l.is_none() && (m.is_none() && r.is_none())
 }
 
-pub fn is_leaf(tree: &Nodes, x: ProofTreeNodeID) -> bool
-    ensures { λ r. ⌜ ((ns : List Node) → length ns ≤ mostIdentifiers → now (tree .entry) ≡ lay ns → r ≡ isLeaf (nodeAt ns (x .0) .children)) ⌝ }
+pub fn is_leaf(nodes: &Nodes, x: ProofTreeNodeID) -> bool
+    ensures { λ r. ⌜ ((ns : List Node) → Lays ns (now (nodes .entry)) → r ≡ isLeaf (nodeAt ns (x .0) .children)) ⌝ }
 {
-    let l = left_of(tree, x);
-    let m = middle_of(tree, x);
-    let r = right_of(tree, x);
+    let l = left_of(nodes, x);
+    let m = middle_of(nodes, x);
+    let r = right_of(nodes, x);
     are_none(l, m, r)
 }
 
 // The leaves at and below x, left, then middle, then right.
 pub fn leaves_below(
-    tree: &Nodes,
+    nodes: &Nodes,
     x: ProofTreeNodeID,
     depth: usize,
     out: &mut Numbers,
     n: usize,
 ) -> usize
-    ensures { λ r. ⌜ ((ns : List Node) (l : List ℕ) → length ns ≤ mostIdentifiers → now (tree .entry) ≡ lay ns → Listed l n (now (out .entry)) → Listed (l ++ leavesBelow depth ns (x .0)) r (now (out .exit))) ⌝ }
+    ensures { λ r. ⌜ ((ns : List Node) (l : List ℕ) → Lays ns (now (nodes .entry)) → Listed l n (now (out .entry)) → Listed (l ++ leavesBelow depth ns (x .0)) r (now (out .exit))) ⌝ }
 {
     if x.is_none() {
         return n;
@@ -429,57 +465,59 @@ pub fn leaves_below(
     if depth == 0 {
         return push(out, n, x.0);
     }
-    let l = left_of(tree, x);
-    let m = middle_of(tree, x);
-    let r = right_of(tree, x);
+    let l = left_of(nodes, x);
+    let m = middle_of(nodes, x);
+    let r = right_of(nodes, x);
     if are_none(l, m, r) {
         return push(out, n, x.0);
     }
-    let a = leaves_below(tree, l, depth - 1, out, n);
-    let b = leaves_below(tree, m, depth - 1, out, a);
-    leaves_below(tree, r, depth - 1, out, b)
+    let below = depth - 1;
+    let a = leaves_below(nodes, l, below, out, n);
+    let b = leaves_below(nodes, m, below, out, a);
+    leaves_below(nodes, r, below, out, b)
 }
 
 // The leaves at and below x, in the same order, but none at or below a contradictory node.
 fn takers_below(
-    tree: &Nodes,
+    nodes: &Nodes,
     x: ProofTreeNodeID,
     depth: usize,
     out: &mut Numbers,
     n: usize,
 ) -> usize
-    ensures { λ r. ⌜ ((ns : List Node) (l : List ℕ) → length ns ≤ mostIdentifiers → now (tree .entry) ≡ lay ns → Listed l n (now (out .entry)) → Listed (l ++ openBelow depth ns (x .0)) r (now (out .exit))) ⌝ }
+    ensures { λ r. ⌜ ((ns : List Node) (l : List ℕ) → Lays ns (now (nodes .entry)) → Listed l n (now (out .entry)) → Listed (l ++ openBelow depth ns (x .0)) r (now (out .exit))) ⌝ }
 {
     if x.is_none() {
         return n;
     }
-    if is_contradictory(tree, x) {
+    if is_contradictory(nodes, x) {
         return n;
     }
     if depth == 0 {
         return push(out, n, x.0);
     }
-    let l = left_of(tree, x);
-    let m = middle_of(tree, x);
-    let r = right_of(tree, x);
+    let l = left_of(nodes, x);
+    let m = middle_of(nodes, x);
+    let r = right_of(nodes, x);
     if are_none(l, m, r) {
         return push(out, n, x.0);
     }
-    let a = takers_below(tree, l, depth - 1, out, n);
-    let b = takers_below(tree, m, depth - 1, out, a);
-    takers_below(tree, r, depth - 1, out, b)
+    let below = depth - 1;
+    let a = takers_below(nodes, l, below, out, n);
+    let b = takers_below(nodes, m, below, out, a);
+    takers_below(nodes, r, below, out, b)
 }
 
 // The leaves whose paths hold the target and no contradictory node.
-pub fn takers(tree: &Nodes, len: usize, target: ProofTreeNodeID, out: &mut Numbers) -> usize
-    ensures { λ r. ⌜ ((ns : List Node) → Treed ns → length ns ≡ len → len ≤ mostIdentifiers → now (tree .entry) ≡ lay ns → Listed [] 0 (now (out .entry))
+pub fn takers(nodes: &Nodes, len: usize, target: ProofTreeNodeID, out: &mut Numbers) -> usize
+    ensures { λ r. ⌜ ((ns : List Node) → Treed ns → length ns ≡ len → Lays ns (now (nodes .entry)) → Listed [] 0 (now (out .entry))
         → Listed (filter (takes ns (target .0)) (leaves ns)) r (now (out .exit))) ⌝ }
 {
-    if place_of(tree, target) == 65535 {
+    if place_of(nodes, target) == PLACE_UNPLACED {
         return 0;
     }
-    if path_is_contradictory(tree, len, target) {
+    if path_is_contradictory(nodes, len, target) {
         return 0;
     }
-    takers_below(tree, target, len, out, 0)
+    takers_below(nodes, target, len, out, 0)
 }

@@ -10,4 +10,4 @@ returns-2 : tie.Need-returns-2
 returns-2 c = λ l p. rw (c .if1 .left, append-nil l) p
 
 pub push-if-spec : {M : Type 1} → statement M
-push-if-spec = tie.close (tie.spec (λ c κs. search needs) returns returns-2)
+push-if-spec = tie.close (tie.spec (search needs) returns returns-2)

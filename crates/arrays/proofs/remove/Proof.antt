@@ -1,6 +1,6 @@
+-- After each turn the entries from i up to j are those one further on, and the others are as they were; the last one is then zero.
 use borrow.Author.Needs.{needs}
-use borrow.Author.Needs.{needs}
-use Prim.Native.Nat.{ℕ, _≤_, _<_, _-_}
+use Prim.Native.Nat.{ℕ, _≤_, _-_}
 use mathlib.Core.Path.{_≡_, refl}
 use mathlib.Core.List.{List}
 use mathlib.Core.Logic.{⊎-elim}
@@ -25,68 +25,11 @@ returns-2 c = (λ l p h g. absurd (omega (arith, c .if2 .taken)), λ z. (refl, r
 loop-holds : tie.Need-loop-holds Inv-loop μ-loop
 loop-holds c = (omega arith, omega arith, λ l p. gap-begin p (c .before .if1 .left) _ (c .if2 .left))
 
-sub-loop : tie.Need-sub-loop Inv-loop μ-loop
-sub-loop c = search needs
-
-add-a : tie.Need-add-a Inv-loop μ-loop
-add-a c = search needs
-
-mul-a : tie.Need-mul-a Inv-loop μ-loop
-mul-a c = search needs
-
-element-copy-out-a : tie.Need-element-copy-out-a Inv-loop μ-loop
-element-copy-out-a c = search needs
-
-mul-a-2 : tie.Need-mul-a-2 Inv-loop μ-loop
-mul-a-2 c = search needs
-
-element-write-a : tie.Need-element-write-a Inv-loop μ-loop
-element-write-a c = search needs
-
-add-j : tie.Need-add-j Inv-loop μ-loop
-add-j c = search needs
-
-loop-less : tie.Need-loop-less Inv-loop μ-loop
-loop-less c = search needs
-
 loop-again : tie.Need-loop-again Inv-loop μ-loop
 loop-again c = (omega arith, omega arith, λ l p. gap-step p (c .before .before .before .before .if1 .left) _ (c .before .before .before .if2 .left) _ _ (c .before .before .loop .inv .0) (c .before .loop-test .taken) (c .before .before .loop .inv .2 l p))
-
-sub-a : tie.Need-sub-a Inv-loop μ-loop
-sub-a c = search needs
-
-mul-a-3 : tie.Need-mul-a-3 Inv-loop μ-loop
-mul-a-3 c = search needs
-
-element-write-a-2 : tie.Need-element-write-a-2 Inv-loop μ-loop
-element-write-a-2 c = search needs
-
-sub-result : tie.Need-sub-result Inv-loop μ-loop
-sub-result c = search needs
 
 returns-3 : tie.Need-returns-3 Inv-loop μ-loop
 returns-3 c = (λ l p h g. gap-end p h _ g _ _ (omega (arith, c .loop-test .left, c .before .loop .inv .1)) (c .before .loop .inv .2 l p), ⊎-elim (λ z. absurd (omega (arith, c .before .before .if2 .left))) (λ z. absurd (omega (arith, c .before .before .before .if1 .left))))
 
 pub remove-spec : {M : Type 1} → statement M
-remove-spec =
-    tie.close
-    (tie.spec
-    Inv-loop
-    μ-loop
-    returns
-    returns-2
-    loop-holds
-    sub-loop
-    add-a
-    mul-a
-    element-copy-out-a
-    mul-a-2
-    element-write-a
-    add-j
-    loop-less
-    loop-again
-    sub-a
-    mul-a-3
-    element-write-a-2
-    sub-result
-    returns-3)
+remove-spec = tie.close (tie.spec Inv-loop μ-loop returns returns-2 loop-holds (search needs) (search needs) (search needs) (search needs) (search needs) (search needs) (search needs) (search needs) loop-again (search needs) (search needs) (search needs) (search needs) returns-3)

@@ -1,3 +1,4 @@
+-- After each turn the set is the one at the start without the numbers of the row whose words stand before k; at the last word the whole row is out.
 use Prim.Native.Nat.{ℕ, _+_, _*_, _-_, _≤_}
 use mathlib.Core.Bool.{Bool}
 use borrow.Author.Needs.{needs}
@@ -8,34 +9,16 @@ use Rattle.bits.proofs.clear_row.Statement.{statement}
 use Rattle.bits.proofs.clear_row.Tie as tie
 
 abbrev Inv-loop : tie.InvT-loop
-Inv-loop words₀ row first k₀ k-end words k = (row * rowWords ≤ k) × (k ≤ row * rowWords + rowWords) × ((p : ℕ → Bool) → Bits p words₀ → Bits (without row k p) words)
+Inv-loop leaves₀ row first k₀ k-end leaves k = (row * rowWords ≤ k) × (k ≤ row * rowWords + rowWords) × ((p : ℕ → Bool) → Bits p leaves₀ → Bits (without row k p) leaves)
 
 abbrev μ-loop : tie.MeasureT-loop
-μ-loop words₀ row first k₀ k-end words k = k-end - k
+μ-loop leaves₀ row first k₀ k-end leaves k = k-end - k
 
 returns : tie.Need-returns Inv-loop μ-loop
 returns c = λ p b. row-out p _ _ (c .if1 .taken) b
 
-mul-first : tie.Need-mul-first Inv-loop μ-loop
-mul-first c = search needs
-
-add-k-end : tie.Need-add-k-end Inv-loop μ-loop
-add-k-end c = search needs
-
 loop-holds : tie.Need-loop-holds Inv-loop μ-loop
 loop-holds c = (search needs, search needs, λ p b. row-start _ p _ b)
-
-mul-words : tie.Need-mul-words Inv-loop μ-loop
-mul-words c = search needs
-
-element-write-words : tie.Need-element-write-words Inv-loop μ-loop
-element-write-words c = search needs
-
-add-k : tie.Need-add-k Inv-loop μ-loop
-add-k c = search needs
-
-loop-less : tie.Need-loop-less Inv-loop μ-loop
-loop-less c = search needs
 
 loop-again : tie.Need-loop-again Inv-loop μ-loop
 loop-again c = (search needs, search needs, λ p b. row-next _ p _ _ (c .before .before .if1 .left) (c .before .loop .inv .0) (c .loop-test .taken) (c .before .loop .inv .2 p b))
@@ -50,12 +33,12 @@ clear-row-spec =
     Inv-loop
     μ-loop
     returns
-    mul-first
-    add-k-end
+    (search needs)
+    (search needs)
     loop-holds
-    mul-words
-    element-write-words
-    add-k
-    loop-less
+    (search needs)
+    (search needs)
+    (search needs)
+    (search needs)
     loop-again
     returns-2)

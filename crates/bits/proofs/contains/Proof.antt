@@ -8,17 +8,8 @@ use Rattle.bits.proofs.contains.Tie as tie
 returns : tie.Need-returns
 returns c = λ p b. rw (le-ltb _ _ (c .if1 .taken))
 
-mul-bit : tie.Need-mul-bit
-mul-bit c = search needs
-
-element-copy-out-bit : tie.Need-element-copy-out-bit
-element-copy-out-bit c = search needs
-
-bit-requires : tie.Need-bit-requires
-bit-requires c κs = search needs
-
 returns-2 : tie.Need-returns-2
 returns-2 c = λ p b. c .bit .ensures ∙ bits-has p _ _ b (c .before .before .if1 .left)
 
 pub contains-spec : {M : Type 1} → statement M
-contains-spec = tie.close (tie.spec returns mul-bit element-copy-out-bit bit-requires returns-2)
+contains-spec = tie.close (tie.spec returns (search needs) (search needs) (search needs) returns-2)

@@ -1,3 +1,4 @@
+-- After i turns the nodes made so far, which are the chain's, and those that the records from i on still give are all nodes of the branch.
 use borrow.Author.Needs.{needs}
 use mathlib.Core.Path.{refl}
 use Prim.Native.Nat.{_≤_, _-_}
@@ -14,10 +15,10 @@ use Rattle.branch.proofs.branch_nodes.Statement.{statement}
 use Rattle.branch.proofs.branch_nodes.Tie as tie
 
 abbrev Inv-loop : tie.InvT-loop
-Inv-loop formulas count tree₀ nodes₀ i₀ tree nodes i = (i ≤ count) × DrawnFrom 0 nodes × ((rs : List Rec) → Recorded rs count formulas → count ≤ mostFormulas → Held [] 0 tree₀ → Beginning rs (nodes .len) tree i)
+Inv-loop formulas count nodes₀ made₀ i₀ nodes made i = (i ≤ count) × DrawnFrom 0 made × ((rs : List Rec) → Recorded rs count formulas → count ≤ mostFormulas → Held [] 0 nodes₀ → Beginning rs (made .len) nodes i)
 
 abbrev μ-loop : tie.MeasureT-loop
-μ-loop formulas count tree₀ nodes₀ i₀ tree nodes i = count - i
+μ-loop formulas count nodes₀ made₀ i₀ nodes made i = count - i
 
 loop-holds : tie.Need-loop-holds Inv-loop μ-loop
 loop-holds c = (search needs, drawn-none 0, λ rs p few h. beginning-start rs h)

@@ -1,3 +1,4 @@
+-- After i turns the records written so far and those from i on, which are left, are all records of the branch.
 use borrow.Author.Needs.{needs}
 use Prim.Native.Nat.{_≤_, _-_}
 use mathlib.Core.Path.{refl}
@@ -21,26 +22,8 @@ loop-holds c = (search needs, λ p. reading-start _ refl p)
 returns : tie.Need-returns Inv-loop μ-loop
 returns c = λ few p. absurd (omega (arith, few, c .if1 .taken, c .before .loop-test .taken))
 
-mul-if2 : tie.Need-mul-if2 Inv-loop μ-loop
-mul-if2 c = search needs
-
-add-if2 : tie.Need-add-if2 Inv-loop μ-loop
-add-if2 c = search needs
-
 returns-2 : tie.Need-returns-2 Inv-loop μ-loop
 returns-2 c = λ few p. absurd (omega (arith, c .if2 .taken, c .before .before .loop-test .taken))
-
-record-at-requires : tie.Need-record-at-requires Inv-loop μ-loop
-record-at-requires c κs = search needs
-
-push-input-requires : tie.Need-push-input-requires Inv-loop μ-loop
-push-input-requires c κs = search needs
-
-add-i : tie.Need-add-i Inv-loop μ-loop
-add-i c = search needs
-
-loop-less : tie.Need-loop-less Inv-loop μ-loop
-loop-less c = search needs
 
 loop-again : tie.Need-loop-again Inv-loop μ-loop
 unfolding recordOf
@@ -57,12 +40,12 @@ read-records-spec =
     μ-loop
     loop-holds
     returns
-    mul-if2
-    add-if2
+    (search needs)
+    (search needs)
     returns-2
-    record-at-requires
-    push-input-requires
-    add-i
-    loop-less
+    (search needs)
+    (search needs)
+    (search needs)
+    (search needs)
     loop-again
     returns-3)

@@ -7,14 +7,8 @@ use Rattle.checks.proofs.byte.Tie as tie
 returns : tie.Need-returns
 returns c = (sym (List·getD-eq-default (c .before .before .args .branch .now) 0 (c .if1 .taken)), search needs)
 
-shared-slice-read-wide : tie.Need-shared-slice-read-wide
-shared-slice-read-wide c = search needs
-
-wide-requires : tie.Need-wide-requires
-wide-requires c κs = search needs
-
 returns-2 : tie.Need-returns-2
 returns-2 c = c .wide .ensures
 
 pub byte-spec : {M : Type 1} → statement M
-byte-spec = tie.close (tie.spec returns shared-slice-read-wide wide-requires returns-2)
+byte-spec = tie.close (tie.spec returns (search needs) (search needs) returns-2)

@@ -24,6 +24,4 @@ returns-3 c =
     refused-marks _ _ _ e t (c .before .before .before .before .check-records .ensures refl h) (sym (c .before .before .before .is-refusal2 .ensures) ∙ c .before .before .if2 .left) (c .check-marked .ensures _ (c .before .marked .ensures refl h))
 
 pub check-spec : {M : Type 1} → statement M
-check-spec =
-    tie.close
-    (tie.spec (λ c κs. search needs) (λ c κs. search needs) returns (λ c κs. search needs) (λ c κs. search needs) returns-2 (λ c κs. search needs) (λ c κs. search needs) returns-3)
+check-spec = tie.close (tie.spec (search needs) (search needs) returns (search needs) (search needs) returns-2 (search needs) (search needs) returns-3)

@@ -10,4 +10,4 @@ returns-2 : tie.Need-returns-2
 returns-2 c = rw (le-ltb _ _ (c .before .if1 .left)) (c .accepted .ensures)
 
 pub check-flags-spec : {M : Type 1} → statement M
-check-flags-spec = tie.close (tie.spec (λ c κs. search needs) returns (λ c κs. search needs) returns-2)
+check-flags-spec = tie.close (tie.spec (search needs) returns (search needs) returns-2)

@@ -15,4 +15,4 @@ returns-3 : tie.Need-returns-3
 returns-3 c = λ rs e. rw (empty-some _ _ e (c .before .before .if1 .left), ← e, le-ltb mostMarked _ (c .before .if2 .left)) (c .accepted .ensures)
 
 pub check-marked-spec : {M : Type 1} → statement M
-check-marked-spec = tie.close (tie.spec (λ c κs. search needs) returns (λ c κs. search needs) returns-2 (λ c κs. search needs) returns-3)
+check-marked-spec = tie.close (tie.spec (search needs) returns (search needs) returns-2 (search needs) returns-3)

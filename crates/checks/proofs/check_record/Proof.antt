@@ -28,6 +28,4 @@ returns-5 c =
     rw (kind-known (b .before .before .before .before .args .x) (b .before .before .if1 .left), ← b .before .is-stray .ensures, b .if2 .left, ← f .links-forward .ensures, c .before .before .if3 .left, le-ltb _ _ (c .before .if4 .left)) (c .accepted .ensures)
 
 pub check-record-spec : {M : Type 1} → statement M
-check-record-spec =
-    tie.close
-    (tie.spec (λ c κs. search needs) returns (λ c κs. search needs) (λ c κs. search needs) returns-2 (λ c κs. search needs) (λ c κs. search needs) returns-3 (λ c κs. search needs) returns-4 (λ c κs. search needs) returns-5)
+check-record-spec = tie.close (tie.spec (search needs) returns (search needs) (search needs) returns-2 (search needs) (search needs) returns-3 (search needs) returns-4 (search needs) returns-5)

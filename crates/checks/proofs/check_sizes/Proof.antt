@@ -15,4 +15,4 @@ returns c =
     c .or-else2 .ensures ∙ found-both (sheetChecks (a .bytes)) (flagChecks (a .flags) ++ tray) (c .before .before .before .before .check-sheet .ensures) d
 
 pub check-sizes-spec : {M : Type 1} → statement M
-check-sizes-spec = tie.close (tie.spec (λ c κs. search needs) (λ c κs. search needs) (λ c κs. search needs) (λ c κs. search needs) (λ c κs. search needs) returns)
+check-sizes-spec = tie.close (tie.spec (search needs) (search needs) (search needs) (search needs) (search needs) returns)

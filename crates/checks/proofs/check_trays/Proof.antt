@@ -9,4 +9,4 @@ returns-2 : tie.Need-returns-2
 returns-2 c = rw (← c .before .before .is-short .ensures, c .before .if1 .left) (c .accepted .ensures)
 
 pub check-trays-spec : {M : Type 1} → statement M
-check-trays-spec = tie.close (tie.spec (λ c κs. search needs) (λ c κs. search needs) returns (λ c κs. search needs) returns-2)
+check-trays-spec = tie.close (tie.spec (search needs) (search needs) returns (search needs) returns-2)

@@ -8,12 +8,9 @@ returns : tie.Need-returns
 unfolding recordOf
 returns c = rw (lt-ltb _ _ (c .if1 .taken))
 
-non-zero-field-requires : tie.Need-non-zero-field-requires
-non-zero-field-requires c κs = search needs
-
 returns-2 : tie.Need-returns-2
 unfolding recordOf
 returns-2 c = rw (le-ltb _ _ (c .before .if1 .left)) (c .non-zero-field .ensures)
 
 pub is-stray-spec : {M : Type 1} → statement M
-is-stray-spec = tie.close (tie.spec returns non-zero-field-requires returns-2)
+is-stray-spec = tie.close (tie.spec returns (search needs) returns-2)

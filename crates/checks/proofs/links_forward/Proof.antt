@@ -7,9 +7,6 @@ use Rattle.checks.proofs.Bytes.{links-none, links-one, links-both}
 use Rattle.checks.proofs.links_forward.Statement.{statement}
 use Rattle.checks.proofs.links_forward.Tie as tie
 
-link-count-requires : tie.Need-link-count-requires
-link-count-requires c κs = search needs
-
 returns : tie.Need-returns
 returns c = rw (links-none (c .before .before .args .x) _ (c .before .link-count .ensures) (c .if1 .taken))
 
@@ -23,4 +20,4 @@ returns-4 : tie.Need-returns-4
 returns-4 c = rw (links-both (c .before .before .before .before .before .before .args .x) _ (c .before .before .before .before .before .link-count .ensures) (omega arith), lt-leb _ _ (c .before .if3 .left)) (sym (or-false _))
 
 pub links-forward-spec : {M : Type 1} → statement M
-links-forward-spec = tie.close (tie.spec link-count-requires returns returns-2 returns-3 returns-4)
+links-forward-spec = tie.close (tie.spec (search needs) returns returns-2 returns-3 returns-4)

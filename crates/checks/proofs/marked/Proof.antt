@@ -1,3 +1,4 @@
+-- After i turns n is how many of the first i records are marked.
 use borrow.Author.Needs.{needs}
 use Prim.Native.Nat.{_≤_, _-_, _/_}
 use mathlib.Core.Path.{_≡_}
@@ -21,18 +22,6 @@ loop-holds c = (search needs, search needs, λ e h. counting-start _)
 returns : tie.Need-returns Inv-loop μ-loop
 returns c = λ e h. absurd (omega (arith, c .if1 .taken, c .before .loop-test .taken))
 
-record-at-requires : tie.Need-record-at-requires Inv-loop μ-loop
-record-at-requires c κs = search needs
-
-add-n : tie.Need-add-n Inv-loop μ-loop
-add-n c = search needs
-
-add-i : tie.Need-add-i Inv-loop μ-loop
-add-i c = search needs
-
-loop-less : tie.Need-loop-less Inv-loop μ-loop
-loop-less c = search needs
-
 loop-again : tie.Need-loop-again Inv-loop μ-loop
 loop-again c = (
   search needs,
@@ -44,16 +33,4 @@ returns-2 : tie.Need-returns-2 Inv-loop μ-loop
 returns-2 c = λ e h. counting-end (c .before .loop .inv .2 e h) (omega (arith, c .loop-test .left))
 
 pub marked-spec : {M : Type 1} → statement M
-marked-spec =
-    tie.close
-    (tie.spec
-    Inv-loop
-    μ-loop
-    loop-holds
-    returns
-    record-at-requires
-    add-n
-    add-i
-    loop-less
-    loop-again
-    returns-2)
+marked-spec = tie.close (tie.spec Inv-loop μ-loop loop-holds returns (search needs) (search needs) (search needs) (search needs) loop-again returns-2)

@@ -5,9 +5,6 @@ use Rattle.checks.proofs.Bytes.{links-both, links-few}
 use Rattle.checks.proofs.non_zero_field.Statement.{statement}
 use Rattle.checks.proofs.non_zero_field.Tie as tie
 
-link-count-requires : tie.Need-link-count-requires
-link-count-requires c κs = search needs
-
 returns : tie.Need-returns
 unfolding nonZeroField
 returns c = rw (links-both (c .before .before .args .x) _ (c .before .link-count .ensures) (c .if1 .taken))
@@ -17,4 +14,4 @@ unfolding nonZeroField recordOf
 returns-2 c = rw (links-few (c .before .before .before .args .x) _ (c .before .before .link-count .ensures) (c .before .if1 .left))
 
 pub non-zero-field-spec : {M : Type 1} → statement M
-non-zero-field-spec = tie.close (tie.spec link-count-requires returns returns-2)
+non-zero-field-spec = tie.close (tie.spec (search needs) returns returns-2)

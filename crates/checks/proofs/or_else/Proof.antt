@@ -12,4 +12,4 @@ returns-2 : tie.Need-returns-2
 returns-2 c = or-second (checkOf (c .before .before .args .a)) _ (sym (c .before .is-refusal .ensures) ∙ c .if1 .left)
 
 pub or-else-spec : {M : Type 1} → statement M
-or-else-spec = tie.close (tie.spec (λ c κs. search needs) returns returns-2)
+or-else-spec = tie.close (tie.spec (search needs) returns returns-2)

@@ -12,15 +12,6 @@ use Rattle.checks.proofs.size_at.Tie as tie
 returns : tie.Need-returns
 returns c = (λ s q h. sym (List·getD-eq-default s 0 (omega (arith, c .if1 .taken))), search needs)
 
-mul-wide-size : tie.Need-mul-wide-size
-mul-wide-size c = search needs
-
-element-copy-out-wide-size : tie.Need-element-copy-out-wide-size
-element-copy-out-wide-size c = search needs
-
-wide-size-requires : tie.Need-wide-size-requires
-wide-size-requires c κs = search needs
-
 returns-2 : tie.Need-returns-2
 returns-2 c = (
   λ s q h.
@@ -30,6 +21,4 @@ returns-2 c = (
 )
 
 pub size-at-spec : {M : Type 1} → statement M
-size-at-spec =
-    tie.close
-    (tie.spec returns mul-wide-size element-copy-out-wide-size wide-size-requires returns-2)
+size-at-spec = tie.close (tie.spec returns (search needs) (search needs) (search needs) returns-2)

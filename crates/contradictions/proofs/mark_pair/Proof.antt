@@ -3,15 +3,6 @@ use Rattle.definition.specs.Contradiction.{mark}
 use Rattle.contradictions.proofs.mark_pair.Statement.{statement}
 use Rattle.contradictions.proofs.mark_pair.Tie as tie
 
-enum-told : tie.Need-enum-told
-enum-told c = search needs
-
-enum-known-c : tie.Need-enum-known-c
-enum-known-c c = search needs
-
-mark-child-node-as-contradictory-requires : tie.Need-mark-child-node-as-contradictory-requires
-mark-child-node-as-contradictory-requires c κs = search needs
-
 returns : tie.Need-returns
 unfolding mark
 returns c = λ ns p. rw (c .enum-told .given .1) p
@@ -21,4 +12,4 @@ unfolding mark
 returns-2 c = λ ns p. rw (c .before .before .before .c .given .1) (c .mark-child-node-as-contradictory .ensures ns p)
 
 pub mark-pair-spec : {M : Type 1} → statement M
-mark-pair-spec = tie.close (tie.spec enum-told enum-known-c mark-child-node-as-contradictory-requires returns returns-2)
+mark-pair-spec = tie.close (tie.spec (search needs) (search needs) (search needs) returns returns-2)

@@ -11,8 +11,8 @@ use lib.ListN.{getD}
 use Rattle.definition.specs.Lists.{upFrom, below, any}
 use Rattle.definition.specs.Setting.{Setting, partialEquivalence}
 use Rattle.definition.specs.Graph.{Graph, edge, graphOf, addMissingReflexiveVertices, addMissingSymmetricVertices, paired, addMissingTransitiveVertices, addMissingGraphVertices, initializeGraphIfNeeded, fork}
-use Rattle.definition.proofs.Lists.{true-false, either, alike, cond-both, and-left, and-right, or-cases, or-true, any-below, any-below-of}
-use Rattle.definition.proofs.Edges.{edge-graph}
+use Rattle.definition.proofs.Basics.Lists.{true-false, either, alike, cond-both, and-left, and-right, or-cases, or-true, any-below, any-below-of}
+use Rattle.definition.proofs.Soundness.Edges.{edge-graph}
 
 -- g has the flagged properties; with symmetric and transitive every world reaches every world, but for world 0 alone
 pub record Frame (F : Setting) (g : Graph) : Type 0 where

@@ -16,11 +16,11 @@ use Rattle.definition.specs.Rules.{Rule, nothing, down, split, asPossibl
 use Rattle.definition.specs.Subtree.{Subtree, Targeted, withMiddle, withLeftRight, flat, turned, numbered}
 use Rattle.definition.specs.Queue.{Popped}
 use Rattle.definition.specs.Run.{State, LogicRuleResult, applyHere, applyRule, apply, appended, checkedForContradictions}
-use Rattle.definition.proofs.Lists.{Some, some-map, each-map, each-both, each-any, each-of-map, each-append}
-use Rattle.definition.proofs.Nodes.{Label, label}
-use Rattle.definition.proofs.Issued.{ids-turned, ids-numbered, length-turned}
-use Rattle.definition.proofs.Every.{node-after, each-every}
-use Rattle.definition.proofs.Priest
+use Rattle.definition.proofs.Basics.Lists.{Some, some-map, each-map, each-both, each-any, each-of-map, each-append}
+use Rattle.definition.proofs.Tree.Nodes.{Label, label}
+use Rattle.definition.proofs.Basics.Identifiers.{ids-turned, ids-numbered, length-turned}
+use Rattle.definition.proofs.Tree.Labels.{node-after, each-every}
+use Rattle.definition.proofs.Soundness.Priest
 use Rattle.definition.proofs.Completeness.On.{On, elem-occurs}
 use Rattle.definition.proofs.Completeness.Frames.{Frame}
 use Rattle.definition.proofs.Completeness.Placed.{Pick, middle-pick, sides-pick, here-side, Shows, pick-each}

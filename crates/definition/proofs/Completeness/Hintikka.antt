@@ -6,8 +6,8 @@ use Prim.Native.Nat.{ℕ}
 use Rattle.definition.specs.Formula.{Form, atom, non, and, or, imply, biImply, strictImply, possible, necessary}
 use Rattle.definition.specs.Models.{Model, truth}
 use Rattle.definition.specs.Rules.{asPossible, asNecessary, priest, priestNon}
-use Rattle.definition.proofs.Lists.{true-false, and-left, and-right, or-true, either, not-true-false, any-below, all-below, any-below-of, all-below-of}
-use Rattle.definition.proofs.Priest.{Claims}
+use Rattle.definition.proofs.Basics.Lists.{true-false, and-left, and-right, or-true, either, not-true-false, any-below, all-below, any-below-of, all-below-of}
+use Rattle.definition.proofs.Soundness.Priest.{Claims}
 
 module _ (M : Model) (H : ℕ → Form → Type 0) (closed : (w : ℕ) (p : Form) → H w p → Claims M H w (priest p))
     (says : (w a : ℕ) → H w (atom a) → M .value w a ≡ true) (denies : (w a : ℕ) → H w (non (atom a)) → M .value w a ≡ false) where

@@ -17,18 +17,20 @@ use Rattle.definition.specs.Subtree.{Subtree, Targeted, withMiddle, flat
 use Rattle.definition.specs.Modality.{Necessity, Fork, occurs, unvisited, leavesOf, reapplyNecessity, visiting, giveOn, isReapplied, reapplyIfOnPath, reapplyNecessityAfterPossibility}
 use Rattle.definition.specs.Queue.{Popped}
 use Rattle.definition.specs.Run.{State, LogicRuleResult, applyNecessity, applyRule, apply, appended, checkedForContradictions}
-use Rattle.definition.proofs.Lists.{true-false, Some, some-map, some-among, Among, among-filter, each-by, each-among, elem-each, filter-keeps, Zip, zip-left, zip-right, either, some-append-left, some-append-right, some-cases, among-from, elem-among, filter-each, zip-nil, zip-cons}
-use Rattle.definition.proofs.Nodes.{label}
-use Rattle.definition.proofs.Priest
-use Rattle.definition.proofs.Given.{unvisited-each}
-use Rattle.definition.proofs.Edges.{init-worlds}
-use Rattle.definition.proofs.Treed.{spots, Treed, Bare, leaves-bare}
-use Rattle.definition.proofs.Marked.{leaf-listed}
-use Rattle.definition.proofs.Below.{elem-self}
-use Rattle.definition.proofs.Spawned.{Spawned, path-inner, stored-spawned}
+use Rattle.definition.proofs.Basics.Lists.{true-false, Some, some-map, some-among, Among, among-filter, each-by, each-among, elem-each, filter-keeps, Zip, zip-left, zip-right, either, some-append-left, some-append-right, some-cases, among-from, elem-among, filter-each, zip-nil, zip-cons}
+use Rattle.definition.proofs.Tree.Nodes.{label}
+use Rattle.definition.proofs.Soundness.Priest
+use Rattle.definition.proofs.Soundness.Necessities.{unvisited-each}
+use Rattle.definition.proofs.Soundness.Edges.{init-worlds}
+use Rattle.definition.specs.TreeShape.{spots, Treed, Bare}
+use Rattle.definition.proofs.Tree.Shape.{leaves-bare}
+use Rattle.definition.proofs.Paths.Marks.{leaf-listed}
+use Rattle.definition.specs.Shortcuts.{ThroughSpawner}
+use Rattle.definition.proofs.Paths.Spawners.{path-inner, stored-spawned}
+use Rattle.definition.proofs.Paths.Pairs.{elem-self}
 use Rattle.definition.proofs.Completeness.On.{On}
 use Rattle.definition.proofs.Completeness.Frames.{Frame, init-same}
-use Rattle.definition.proofs.Completeness.Placed.{middle-pick, Laid, laid-end, laid-left, laid-right, laid-zip, Pick, Shows}
+use Rattle.definition.proofs.Completeness.Placed.{middle-pick, LaidFrom, laid-end, laid-left, laid-right, laid-zip, Pick, Shows}
 use Rattle.definition.proofs.Completeness.Steps.{Stepping, after, Shown, Next, next, tree, rule-low, old-on, shows-on, worlds-next}
 use Rattle.definition.proofs.Completeness.Settled.{begun, Occurs, Stored, Met, Settled, Served, Saturated, stored-next, settled-by, settled-next, still-edges, served-still}
 
@@ -41,7 +43,7 @@ module _ (w : List Node) where
     pub is : a .subtree ≡ withMiddle chain
     pub nodes : Zip (λ z v. nodeAt w z ≡ newNode (n .spawner) (n .formula) v) chain (filter (occurs t k (path t l)) worlds)
 
-  give-gifts : (t : List Node) (k : Option Fork) (n : Necessity) (worlds ls : List ℕ) (next : ℕ) → Laid w next (giveOn t k n worlds next ls .nodes) → Zip (Gift t k n worlds) (giveOn t k n worlds next ls .subtrees) ls
+  give-gifts : (t : List Node) (k : Option Fork) (n : Necessity) (worlds ls : List ℕ) (next : ℕ) → LaidFrom w next (giveOn t k n worlds next ls .nodes) → Zip (Gift t k n worlds) (giveOn t k n worlds next ls .subtrees) ls
   unfolding giveOn
   give-gifts t k n worlds [] next h = zip-nil
   give-gifts t k n worlds (l ∷ ls) next h =
@@ -56,12 +58,12 @@ module _ (w : List Node) where
     ForkGift n = Gift t (some k) n (unvisited g n)
 
     gifts-if : (b : Bool) (next : ℕ) (n : Necessity) → let one = cond b (reapplyNecessity t g (some k) next n) (record { nodes = []; subtrees = [] }) in
-        Laid w next (one .nodes) → Zip (ForkGift n) (one .subtrees) (cond b (leavesOf t n) [])
+        LaidFrom w next (one .nodes) → Zip (ForkGift n) (one .subtrees) (cond b (leavesOf t n) [])
     unfolding reapplyNecessity
     gifts-if true next n h = give-gifts t (some k) n (unvisited g n) (leavesOf t n) next h
     gifts-if false next n h = zip-nil
 
-    pub after-given : (ns : List Necessity) (next : ℕ) → Laid w next (reapplyNecessityAfterPossibility t g k next ns .nodes) → (n : Necessity) → Among n ns → isReapplied t k n ≡ true → (l : ℕ) → Among l (leavesOf t n) →
+    pub after-given : (ns : List Necessity) (next : ℕ) → LaidFrom w next (reapplyNecessityAfterPossibility t g k next ns .nodes) → (n : Necessity) → Among n ns → isReapplied t k n ≡ true → (l : ℕ) → Among l (leavesOf t n) →
         Some (λ a. ForkGift n a l) (reapplyNecessityAfterPossibility t g k next ns .subtrees)
     unfolding reapplyNecessityAfterPossibility reapplyIfOnPath
     after-given [] next h n i e l j = absurd i
@@ -73,7 +75,7 @@ module _ (w : List Node) where
         let one = reapplyIfOnPath t g k next m in
         some-append-right _ (one .subtrees) _ (after-given ns (next + length (one .nodes)) (laid-right w next _ (one .nodes) _ refl h) n i e l j)
 
-    pub after-from : (ns : List Necessity) (next : ℕ) → Laid w next (reapplyNecessityAfterPossibility t g k next ns .nodes) → (a : Targeted) → Among a (reapplyNecessityAfterPossibility t g k next ns .subtrees) →
+    pub after-from : (ns : List Necessity) (next : ℕ) → LaidFrom w next (reapplyNecessityAfterPossibility t g k next ns .nodes) → (a : Targeted) → Among a (reapplyNecessityAfterPossibility t g k next ns .subtrees) →
         (n : Necessity) × (l : ℕ) × Among l (leavesOf t n) × ForkGift n a l
     unfolding reapplyNecessityAfterPossibility reapplyIfOnPath
     after-from [] next h a i = absurd i
@@ -139,7 +141,7 @@ pub leaves-of : (t : List Node) → Treed t → (n : Necessity) (l : ℕ) → Am
 unfolding leavesOf
 leaves-of t r n l i = each-among (Bare (spots t)) l (leavesOf t n) (filter-keeps (Bare (spots t)) _ (leaves t) (leaves-bare t r)) i
 
-pub among-leaves : (t : List Node) → Treed t → (n : Necessity) → Spawned t n → (l : ℕ) → Bare (spots t) l → elem (n .spawner) (path t l) ≡ true → Among l (leavesOf t n)
+pub among-leaves : (t : List Node) → Treed t → (n : Necessity) → ThroughSpawner t n → (l : ℕ) → Bare (spots t) l → elem (n .spawner) (path t l) ≡ true → Among l (leavesOf t n)
 unfolding leavesOf
 among-leaves t r n spawned l b on = among-filter _ l (leaves t) (spawned l b ∙ on) (leaf-listed t r l b)
 

@@ -16,10 +16,10 @@ use Rattle.definition.specs.Tree.{Node, nodeAt, path}
 use Rattle.definition.specs.Modality.{Fork, forkedOn, occurs}
 use Rattle.definition.specs.Run.{State}
 use Rattle.definition.specs.Countermodel.{keepsEdges}
-use Rattle.definition.proofs.Lists.{true-false, not-true, and-left, and-right, and-both, or-cases, or-true, Some, some-map, some-any, any-some, some-among, among-some, elem-among, among-elem}
-use Rattle.definition.proofs.Nodes.{Label, label}
-use Rattle.definition.proofs.Treed.{spots, Bare}
-use Rattle.definition.proofs.Partners.{pairOf}
+use Rattle.definition.proofs.Basics.Lists.{true-false, not-true, and-left, and-right, and-both, or-cases, or-true, Some, some-map, some-any, any-some, some-among, among-some, elem-among, among-elem}
+use Rattle.definition.proofs.Tree.Nodes.{Label, label}
+use Rattle.definition.specs.TreeShape.{spots, Bare}
+use Rattle.definition.specs.Shortcuts.{pairOf}
 
 -- a label says p at v
 pub record Says (rs : List Rec) (v : ℕ) (p : Form) (a : Label) : Type 0 where

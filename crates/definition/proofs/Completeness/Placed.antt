@@ -9,17 +9,18 @@ use lib.ListN.{length, length-append, length-reverse}
 use lib.Seq.{getD-append-seam}
 use Rattle.definition.specs.Lists.{Each, Distinct, upFrom, elem, filter}
 use Rattle.definition.specs.Records.{nobody, isNobody}
-use Rattle.definition.specs.Tree.{Place, Left, Middle, Right, placeNumber, Node, nodeAt, setChild, link, linkChain, leaves, path, isContradictory}
+use Rattle.definition.specs.Tree.{Place, Left, Middle, Right, placeNumber, Node, nodeAt, setChild, link, linkChain, leaves, path, isContradictory, childAt}
 use Rattle.definition.specs.Subtree.{Subtree, Targeted, withMiddle, withLeftRight, flat, turned, numbered, copied, appendSubtreeOnLeaf, pushSubtree, appendCopies, appendOn, takes, appendSubtree, appendLogicRuleResult}
-use Rattle.definition.proofs.Lists.{true-false, alike, and-both, and-left, not-true-false, Some, Among, any-some, some-any, some-append-left, some-append-right, some-each, some-map, some-among, each-some, some-reverse, each-among, each-map, each-both, each-append, each-left, each-right, each-reverse, filter-keeps, filter-each, among-filter, elem-high, Full, full-reverse, some-of-map, each-by, Zip, zip-nil, zip-cons, zip-right, zip-left}
-use Rattle.definition.proofs.Nodes.{blank, Label, label, Ext, ext-trans, ext-append, ext-leaf, ext-copies, ext-subtree, ext-result, length-leaf, leaf-keeps}
-use Rattle.definition.proofs.Issued.{Issued, issued-le, ids-numbered, flat-numbered, length-from, distinct-left, distinct-filter}
-use Rattle.definition.proofs.Treed.{Spot, spots, placed, childAt, In, Out, Tree, Treed, Bare, in-range, in-out, leaves-bare, leaves-distinct, path-distinct}
-use Rattle.definition.proofs.Linking.{Slot, Free, Room, bare-room, link-other, link-new, link-at, parent-keeps, in-keeps, in-new, link-treed, room-new, free-keeps, chain-ready, hang-treed, leaf-other}
-use Rattle.definition.proofs.Growing.{append-spots, append-out, map-new, withCopy, copy-length, copy-other, copy-treed, bare-keeps, subtree-treed}
-use Rattle.definition.proofs.Partners.{climbing, path-below, path-root, Stem, Grown, grown-path}
-use Rattle.definition.proofs.Takers.{closed, grown-append}
-use Rattle.definition.proofs.Marked.{leaf-listed}
+use Rattle.definition.proofs.Basics.Lists.{true-false, alike, and-both, and-left, not-true-false, Some, Among, any-some, some-any, some-append-left, some-append-right, some-each, some-map, some-among, each-some, some-reverse, each-among, each-map, each-both, each-append, each-left, each-right, each-reverse, filter-keeps, filter-each, among-filter, elem-high, Full, full-reverse, some-of-map, each-by, Zip, zip-nil, zip-cons, zip-right, zip-left}
+use Rattle.definition.proofs.Tree.Nodes.{blank, Label, label, Ext, ext-trans, ext-append, ext-leaf, ext-copies, ext-subtree, ext-result, length-leaf, leaf-keeps}
+use Rattle.definition.proofs.Basics.Identifiers.{IssuedBetween, issued-le, ids-numbered, flat-numbered, length-from, distinct-left, distinct-filter}
+use Rattle.definition.specs.TreeShape.{Spot, spots, placed, In, Out, Tree, Treed, Bare}
+use Rattle.definition.proofs.Tree.Shape.{in-range, in-out, leaves-bare, leaves-distinct, path-distinct}
+use Rattle.definition.proofs.Tree.Linking.{Slot, Free, Room, bare-room, link-other, link-new, link-at, parent-keeps, in-keeps, in-new, link-treed, room-new, free-keeps, chain-ready, hang-treed, leaf-other}
+use Rattle.definition.proofs.Run.TreeKept.{append-spots, append-out, map-new, withCopy, copy-length, copy-other, copy-treed, bare-keeps, subtree-treed}
+use Rattle.definition.proofs.Paths.Pairs.{climbing, path-below, path-root, Stem, Grown, grown-path}
+use Rattle.definition.proofs.Paths.Takers.{closed, grown-append}
+use Rattle.definition.proofs.Paths.Marks.{leaf-listed}
 
 -- the nodes of t stay in the tree, on the paths that they had
 abbrev Stays : List Node → List Node → Type 0
@@ -165,26 +166,26 @@ zip-map P Q f p q zip-nil = zip-nil
 zip-map P Q f p q (zip-cons h k) = zip-cons (f _ _ (p .0) (q .0) h) (zip-map P Q f (p .1) (q .1) k)
 
 -- the nodes xs stand in w from n on
-abbrev pub Laid : List Node → ℕ → List Node → Type 0
-Laid w n [] = Unit {0}
-Laid w n (x ∷ xs) = (nodeAt w n ≡ x) × Laid w (suc n) xs
+abbrev pub LaidFrom : List Node → ℕ → List Node → Type 0
+LaidFrom w n [] = Unit {0}
+LaidFrom w n (x ∷ xs) = (nodeAt w n ≡ x) × LaidFrom w (suc n) xs
 
-pub laid-end : (t ns : List Node) → Laid (t ++ ns) (length t) ns
+pub laid-end : (t ns : List Node) → LaidFrom (t ++ ns) (length t) ns
 laid-end t [] = tt
 laid-end t (x ∷ ns) = (
   getD-append-seam t x ns blank,
-  subst (λ (w : List Node). Laid w (suc (length t)) ns) (append-assoc t (x ∷ []) ns) (subst (λ (n : ℕ). Laid ((t ++ (x ∷ [])) ++ ns) n ns) (omega (arith, length-append t (x ∷ []))) (laid-end (t ++ (x ∷ [])) ns)),
+  subst (λ (w : List Node). LaidFrom w (suc (length t)) ns) (append-assoc t (x ∷ []) ns) (subst (λ (n : ℕ). LaidFrom ((t ++ (x ∷ [])) ++ ns) n ns) (omega (arith, length-append t (x ∷ []))) (laid-end (t ++ (x ∷ [])) ns)),
 )
 
-pub laid-left : (w : List Node) (n : ℕ) (xs ys : List Node) → Laid w n (xs ++ ys) → Laid w n xs
+pub laid-left : (w : List Node) (n : ℕ) (xs ys : List Node) → LaidFrom w n (xs ++ ys) → LaidFrom w n xs
 laid-left w n [] ys h = tt
 laid-left w n (x ∷ xs) ys h = (h .0, laid-left w (suc n) xs ys (h .1))
 
-pub laid-right : (w : List Node) (n m : ℕ) (xs ys : List Node) → n + length xs ≡ m → Laid w n (xs ++ ys) → Laid w m ys
-laid-right w n m [] ys e h = subst (λ (k : ℕ). Laid w k ys) (omega (arith, e)) h
+pub laid-right : (w : List Node) (n m : ℕ) (xs ys : List Node) → n + length xs ≡ m → LaidFrom w n (xs ++ ys) → LaidFrom w m ys
+laid-right w n m [] ys e h = subst (λ (k : ℕ). LaidFrom w k ys) (omega (arith, e)) h
 laid-right w n m (x ∷ xs) ys e h = laid-right w (suc n) m xs ys (omega (arith, e)) (h .1)
 
-pub laid-zip : (w : List Node) (f : ℕ → Node) (cs : List ℕ) (n : ℕ) → Laid w n (map f cs) → Zip (λ z c. nodeAt w z ≡ f c) (upFrom (length cs) n) cs
+pub laid-zip : (w : List Node) (f : ℕ → Node) (cs : List ℕ) (n : ℕ) → LaidFrom w n (map f cs) → Zip (λ z c. nodeAt w z ≡ f c) (upFrom (length cs) n) cs
 laid-zip w f [] n h = zip-nil
 laid-zip w f (c ∷ cs) n h = zip-cons (h .0) (laid-zip w f cs (suc n) (h .1))
 
@@ -233,11 +234,11 @@ here-side make t fs u xs (cs, p, h) =
 
 -- ---- the leaves after a subtree is placed
 -- the nodes of t are marked as they were
-abbrev Kept : List Node → List Node → Type 0
-Kept t u = (z : ℕ) → z < length t → nodeAt u z .contrarian ≡ nodeAt t z .contrarian
+abbrev ContrariansKept : List Node → List Node → Type 0
+ContrariansKept t u = (z : ℕ) → z < length t → nodeAt u z .contrarian ≡ nodeAt t z .contrarian
 
 -- a path whose end is open was open
-pub open-back : (t u : List Node) (l m : ℕ) (new : List ℕ) → Treed t → In (spots t) m → Kept t u → path u l ≡ new ++ path t m → closed u l ≡ false → closed t m ≡ false
+pub open-back : (t u : List Node) (l m : ℕ) (new : List ℕ) → Treed t → In (spots t) m → ContrariansKept t u → path u l ≡ new ++ path t m → closed u l ≡ false → closed t m ≡ false
 unfolding isContradictory
 open-back t u l m new r i k e o =
     not-true-false (closed t m)
@@ -251,7 +252,7 @@ module _ (t₀ : List Node) (old : ℕ) where
 
   -- a leaf l of u goes on from a leaf m of t: with a chain like one of s, if m is one of ls, and else with nothing
   abbrev Ends : List Node → List Node → List ℕ → Subtree → Type 0
-  Ends t u ls s = Kept t u × ((l : ℕ) → Bare (spots u) l →
+  Ends t u ls s = ContrariansKept t u × ((l : ℕ) → Bare (spots u) l →
       (m : ℕ) × (cs : List ℕ) × Bare (spots t) m × (path u l ≡ cs ++ path t m) × (Among m ls → Side t₀ s u cs) × Each (λ z. (old ≤ z) × Among m ls × Some (Like u z) (flat s)) cs)
 
   -- t′ is t, perhaps with nodes that are not in the tree; c, a copy of s, hangs on its leaf y
@@ -353,7 +354,7 @@ module _ (t₀ : List Node) (old : ℕ) where
       grew-more a rs t v u l up k ext low m cs bare fair e (λ g. side (taker m bare fair g)) (each-map (λ z w. (w .0, holds m (w .1), w .2)) cs new)
 
   -- the subtrees of a result, one after the other: nodes of t₀ that are not in the tree yet
-  pub result-grew : (rs : List Targeted) (t : List Node) (q : List ℕ) (lo hi : ℕ) → Treed t → Ext t₀ t → Issued lo hi rs → ((z : ℕ) → lo ≤ z → z < hi → Out (spots t) z) → hi ≤ length t₀ → old ≤ lo →
+  pub result-grew : (rs : List Targeted) (t : List Node) (q : List ℕ) (lo hi : ℕ) → Treed t → Ext t₀ t → IssuedBetween lo hi rs → ((z : ℕ) → lo ≤ z → z < hi → Out (spots t) z) → hi ≤ length t₀ → old ≤ lo →
       length (appendLogicRuleResult t q rs .nodes) ≤ nobody → Each (λ (a : Targeted). a .target < old) rs →
       (l : ℕ) → Bare (spots (appendLogicRuleResult t q rs .nodes)) l → closed (appendLogicRuleResult t q rs .nodes) l ≡ false → Grew rs t (appendLogicRuleResult t q rs .nodes) l
   unfolding appendLogicRuleResult appendSubtree takes

@@ -3,7 +3,7 @@ use mathlib.Core.Path.{_≡_, refl, sym, ap, ap₂, _∙_, subst}
 use mathlib.Core.Bool.{Bool, true, false, not, _&&_, _||_, Bool·beq}
 use mathlib.Core.List.{List, [], _++_}
 use mathlib.Core.Logic.{_↔_, inl, inr}
-use Prim.Native.Nat.{ℕ, suc, _<_, _≤_, _+_}
+use Prim.Native.Nat.{ℕ, _<_, _≤_, _+_}
 use native.Mathlib.Omega.{arith}
 use borrow.Author.Tests.{ne-eqb}
 use lib.ListN.{length, length-append}
@@ -27,20 +27,22 @@ use Rattle.definition.specs.Claim.{Proved}
 use Rattle.definition.specs.Countermodel.{readOff}
 use Rattle.definition.specs.Completeness.{ChecksContradictions}
 use Rattle.definition.specs.Propositional.{Plain, PlainBranch, assigned, Satisfies}
-use Rattle.definition.proofs.Lists.{either, each-both, each-append, each-of-map, each-from-map}
-use Rattle.definition.proofs.Nodes.{Label, label, mark-keeps, length-marks}
-use Rattle.definition.proofs.Issued.{each-turned, apply-issued}
-use Rattle.definition.proofs.Count.{checked-both, pop-taken, taken-each}
-use Rattle.definition.proofs.Every.{Every, every-append, every-result}
-use Rattle.definition.proofs.Accepted.{Accepted}
-use Rattle.definition.proofs.Forms.{form-append}
-use Rattle.definition.proofs.Priest
-use Rattle.definition.proofs.Priest.{rule-is-priest, rule-known, made-two}
-use Rattle.definition.proofs.Sound.{demand-3, marks-known, rooted-every}
-use Rattle.definition.proofs.Ready.{Fit, fit-start, fit-step, ready}
+use Rattle.definition.proofs.Basics.Lists.{either, each-both, each-append, each-of-map, each-from-map}
+use Rattle.definition.proofs.Tree.Nodes.{Label, label}
+use Rattle.definition.proofs.Basics.Records.{marks-known}
+use Rattle.definition.proofs.Basics.Identifiers.{each-turned, apply-issued}
+use Rattle.definition.proofs.Run.Stepping.{checked-both, run-keeps}
+use Rattle.definition.proofs.Run.Counting.{known-taken}
+use Rattle.definition.proofs.Tree.Labels.{Every, every-append, every-result, every-marks, rooted-every}
+use Rattle.definition.proofs.Run.Accepted.{Accepted}
+use Rattle.definition.proofs.Basics.Forms.{form-append}
+use Rattle.definition.proofs.Soundness.Priest
+use Rattle.definition.proofs.Soundness.Priest.{rule-is-priest, rule-known, made-two}
+use Rattle.definition.proofs.Soundness.Theorem.{demand-3}
+use Rattle.definition.proofs.Call.Room.{Fit, fit-start, fit-step, ready}
 use Rattle.definition.proofs.Completeness.Steps.{after}
 use Rattle.definition.proofs.Completeness.Here.{Here, chains, known-flat, apply-here}
-use Rattle.definition.proofs.Completeness.Run.{due, run-keeps}
+use Rattle.definition.proofs.Completeness.Run.{due}
 use Rattle.definition.proofs.Completeness.Whole.{answered, run-complete}
 
 -- ---- plain formulas
@@ -152,7 +154,7 @@ module _ (F : Setting) (k : ℕ) (s : State) (p : Popped) (fit : Fit F k s) (a :
       let made = subst (λ (r : LogicRuleResult). Every (PlainLabel (rs ++ r .formulas)) (t ++ r .nodes)) (sym is) plain-made in
       let placed = every-result (PlainLabel (rs ++ r .formulas)) (r .subtrees) (t ++ r .nodes) (p .others) (length t) (length t + length (r .nodes)) (apply-issued F s x) (omega (arith, length-append t (r .nodes))) made in
       let found = pairs (appended F s p .formulas) u (leaves u) in (
-        λ y h. subst (PlainLabel (rs ++ r .formulas)) (sym (mark-keeps label (λ j n. refl) found u y)) (placed y (omega (arith, length-marks found u))),
+        every-marks (PlainLabel (rs ++ r .formulas)) found u placed,
         ap (λ (r : LogicRuleResult). r .graph .worlds) is ∙ a .1,
       )
 
@@ -163,7 +165,7 @@ plain-start F rs small h =
     (each-both (λ f (l : f < 0 + length rs) (q : Plain (formAt rs f)). record { known = omega arith; named = ne-eqb f nobody (omega arith); plain = q }) (marks rs) (marks-known rs 0) h)) in
     let found = pairs rs (begun rs .nodes) (leaves (begun rs .nodes)) in
     checked-both AllPlain F (begun rs) (first, refl)
-    (λ y l. subst (PlainLabel rs) (sym (mark-keeps label (λ j n. refl) found (begun rs .nodes) y)) (first y (omega (arith, length-marks found (begun rs .nodes)))), refl)
+    (every-marks (PlainLabel rs) found (begun rs .nodes) first, refl)
 
 -- so no world is made
 plain-worlds : (branch : List ℕ) (flags : ℕ) (lent : Lengths) → Accepted branch flags lent → ChecksContradictions (settingOf flags) → PlainBranch (decode branch) → late (settingOf flags) (final (settingOf flags) (decode branch)) ≡ false
@@ -176,17 +178,16 @@ plain-worlds branch flags lent a skip plain = rw none refl
     k : ℕ
     k = length (decode branch)
 
-    Kept : State → Type 0
-    Kept s = Fit F k s × AllPlain s
+    PlainState : State → Type 0
+    PlainState s = Fit F k s × AllPlain s
 
-    one : (s : State) → stops F s ≡ false → Kept s → Kept (step F s)
+    one : (s : State) → stops F s ≡ false → PlainState s → PlainState (step F s)
     one s e h =
         let q = due F s skip e in
-        let known = taken-each (λ x. x < length (s .nodes)) (s .waiting) (q .0) (pop-taken F (s .formulas) (s .nodes) (s .waiting) (q .0) (q .1)) (h .0 .bounded .known) .0 in
-        (fit-step F k s e (h .0), subst AllPlain (sym (q .2)) (plain-step F k s (q .0) (h .0) (h .1) e known))
+        (fit-step F k s e (h .0), subst AllPlain (sym (q .2)) (plain-step F k s (q .0) (h .0) (h .1) e (known-taken s (q .0) (h .0 .bounded .known) (q .1))))
 
     none : run enoughSteps F (start F (decode branch)) .graph .worlds ≡ 0
-    none = run-keeps Kept F one enoughSteps (start F (decode branch)) (fit-start F (decode branch) (a .few) (λ i l. a .records i l .links) (a .marked), plain-start F (decode branch) (a .few) plain) .1 .1
+    none = run-keeps stops F PlainState one enoughSteps (start F (decode branch)) (fit-start F (decode branch) (a .few) (λ i l. a .records i l .links) (a .marked), plain-start F (decode branch) (a .few) plain) .1 .1
 
 -- ---- the verdict
 abbrev Unproved : Answer → Type 0

@@ -15,19 +15,20 @@ use Rattle.definition.specs.Graph.{Graph, edge, initializeGraphIfNeeded,
 use Rattle.definition.specs.Tree.{Node, newNode, nodeAt, path}
 use Rattle.definition.specs.Rules.{Rule, asPossible, expansion, writtenRule}
 use Rattle.definition.specs.Subtree.{flat}
-use Rattle.definition.specs.Modality.{Necessity, Fork, Made, occurs, unvisited, leavesOf, isReapplied, visiting, reapplyNecessityAfterPossibility, necessitiesAfterPossibility}
+use Rattle.definition.specs.Modality.{Necessity, Fork, Reapplication, occurs, unvisited, leavesOf, isReapplied, visiting, reapplyNecessityAfterPossibility, necessitiesAfterPossibility}
 use Rattle.definition.specs.Queue.{Popped}
 use Rattle.definition.specs.Run.{State, LogicRuleResult, applyPossibility, applyRule, apply, appended, checkedForContradictions}
 use Rattle.definition.specs.Countermodel.{keepsEdges}
-use Rattle.definition.proofs.Lists.{true-false, Some, some-map, some-among, among-some, some-of-map, some-reverse, some-any, Among, each-by, each-among, each-reverse, each-of-map, cond-both}
-use Rattle.definition.proofs.Priest
-use Rattle.definition.proofs.Given.{unvisited-each}
-use Rattle.definition.proofs.Treed.{spots, In, in-range}
-use Rattle.definition.proofs.Below.{path-there}
-use Rattle.definition.proofs.Spawned.{Rooted}
+use Rattle.definition.proofs.Basics.Lists.{true-false, Some, some-map, some-among, among-some, some-of-map, some-reverse, some-any, Among, each-by, each-among, each-reverse, each-of-map, cond-both}
+use Rattle.definition.proofs.Soundness.Priest
+use Rattle.definition.proofs.Soundness.Necessities.{unvisited-each}
+use Rattle.definition.specs.TreeShape.{spots, In}
+use Rattle.definition.proofs.Tree.Shape.{in-range}
+use Rattle.definition.proofs.Paths.Spawners.{Rooted}
+use Rattle.definition.proofs.Paths.Pairs.{path-there}
 use Rattle.definition.proofs.Completeness.On.{On, OpenLeaf, occurs-some, some-occurs, occurs-cases, forked-occurs, keeps-cases, keeps-like}
 use Rattle.definition.proofs.Completeness.Frames.{Frame, Forked, fork-framed, init-same}
-use Rattle.definition.proofs.Completeness.Placed.{Laid, laid-end}
+use Rattle.definition.proofs.Completeness.Placed.{LaidFrom, laid-end}
 use Rattle.definition.proofs.Completeness.Steps.{Stepping, after, Next, next, tree, rule-low, known-next, old-on, shows-on, worlds-next}
 use Rattle.definition.proofs.Completeness.Settled.{begun, Occurs, Stored, Met, Settled, Served, Saturated, stored-next, settled-by, settled-next, given-next, served-next}
 use Rattle.definition.proofs.Completeness.Necessary.{after-given, after-from, gift-only, visited-or-due, visiting-in, visiting-of, leaf-on, leaves-of, among-leaves, chain-shown, gift-on}
@@ -74,7 +75,7 @@ module _ {F : Setting} {k : ℕ} {s : State} {p : Popped} (h : Stepping F k s p)
   abbrev all : List Node
   all = t ++ r .nodes
 
-  abbrev rest : Made
+  abbrev rest : Reapplication
   rest = reapplyNecessityAfterPossibility t g′ kf (length t + 2) (s .necessities)
 
   abbrev s′ : State
@@ -102,12 +103,12 @@ module _ {F : Setting} {k : ℕ} {s : State} {p : Popped} (h : Stepping F k s p)
   known = subst (Priest.Known (length (s′ .formulas))) d (rule-low h)
 
   -- the nodes that the rule makes
-  laid : Laid all (length t) (newNode x c v ∷ newNode x nobody 0 ∷ rest .nodes)
+  laid : LaidFrom all (length t) (newNode x c v ∷ newNode x nobody 0 ∷ rest .nodes)
   unfolding applyPossibility
   laid = laid-end t (r .nodes)
 
-  laid-rest : Laid all (length t + 2) (rest .nodes)
-  laid-rest = subst (λ (n : ℕ). Laid all n (rest .nodes)) (omega arith) (laid .1 .1)
+  laid-rest : LaidFrom all (length t + 2) (rest .nodes)
+  laid-rest = subst (λ (n : ℕ). LaidFrom all n (rest .nodes)) (omega arith) (laid .1 .1)
 
   -- a world that occurs on a path of the tree is an old one
   low : (l : ℕ) → In (spots t) l → (b : ℕ) → Occurs s l b → b < v

@@ -13,11 +13,11 @@ use Rattle.definition.specs.Tree.{Node, leaves}
 use Rattle.definition.specs.Subtree.{Subtree, Targeted, flat, turned, numbered, appendSubtreeOnLeaf, pushSubtree, appendCopies, appendOn, takes, appendSubtree, appendLogicRuleResult}
 use Rattle.definition.specs.Queue.{Popped}
 use Rattle.definition.specs.Run.{State, apply, appended}
-use Rattle.definition.proofs.Lists.{either, alike, Among, some-append-left, some-append-right, some-cases, some-or, each-map, each-append, below-each}
-use Rattle.definition.proofs.Nodes.{length-leaf}
-use Rattle.definition.proofs.Issued.{Ids, Issued, ids-numbered, ids-turned, length-from, distinct-append, apart-by, rising-distinct, pigeonhole, apply-issued}
-use Rattle.definition.proofs.Count.{Taken}
-use Rattle.definition.proofs.Growing.{withCopy, copy-length}
+use Rattle.definition.proofs.Basics.Lists.{either, alike, Among, some-append-left, some-append-right, some-cases, some-or, each-map, each-append, below-each}
+use Rattle.definition.proofs.Tree.Nodes.{length-leaf}
+use Rattle.definition.proofs.Basics.Identifiers.{Ids, IssuedBetween, ids-numbered, ids-turned, length-from, distinct-append, apart-by, rising-distinct, pigeonhole, apply-issued}
+use Rattle.definition.proofs.Run.Popping.{Taken}
+use Rattle.definition.proofs.Run.TreeKept.{withCopy, copy-length}
 
 -- x is one of the waiting
 abbrev pub Waits : List ℕ → ℕ → Type 0
@@ -72,7 +72,7 @@ on-waits [] t q s z (inl h) = h
 on-waits [] t q s z (inr h) = absurd (omega arith)
 on-waits (y ∷ ls) t q s z h = copies-waits ls (appendSubtreeOnLeaf t y s) (pushSubtree q s) s z (rw (length-leaf t y s) h)
 
-result-waits : (rs : List Targeted) (t : List Node) (q : List ℕ) (lo hi : ℕ) → Issued lo hi rs → (z : ℕ) → Due q lo hi z ⊎ ((length t ≤ z) × (z < length (appendLogicRuleResult t q rs .nodes))) →
+result-waits : (rs : List Targeted) (t : List Node) (q : List ℕ) (lo hi : ℕ) → IssuedBetween lo hi rs → (z : ℕ) → Due q lo hi z ⊎ ((length t ≤ z) × (z < length (appendLogicRuleResult t q rs .nodes))) →
     Waits (appendLogicRuleResult t q rs .waiting) z
 unfolding appendLogicRuleResult appendSubtree
 result-waits [] t q lo hi i z (inl (inl h)) = h

@@ -1,8 +1,7 @@
 -- Every state of a run that checks: the branch stands on every open path, and the state is saturated.
 use mathlib.Core.Path.{_≡_, refl, sym, ap, _∙_, subst, fun-ext}
-use mathlib.Core.Bool.{Bool, true, false, cond}
-use mathlib.Core.List.{List, _∷_, _++_, map, reverse, []}
-use mathlib.Core.Option.{Option, none, some}
+use mathlib.Core.Bool.{false}
+use mathlib.Core.List.{List, _∷_, _++_, map, []}
 use mathlib.Core.Logic.{_⊎_, inl, inr}
 use Prim.Native.Nat.{ℕ, zero, suc, _<_, _≤_, _+_}
 use native.Mathlib.Omega.{arith}
@@ -14,25 +13,29 @@ use Rattle.definition.specs.Records.{Rec, nobody, marks}
 use Rattle.definition.specs.Formula.{formAt}
 use Rattle.definition.specs.Setting.{Setting}
 use Rattle.definition.specs.Graph.{emptyGraph}
-use Rattle.definition.specs.Tree.{Root, Middle, Node, newNode, nodeAt, placedBelow, isLeaf, leaves, path, setChild}
+use Rattle.definition.specs.Tree.{Root, Middle, Node, newNode, nodeAt, placedBelow, isLeaf, leaves, path, setChild, childAt}
 use Rattle.definition.specs.Rules.{Rule, nothing, down, split, asPossible, asNecessary, expansion}
-use Rattle.definition.specs.Queue.{Popped, pop}
+use Rattle.definition.specs.Queue.{Popped}
 use Rattle.definition.specs.Contradiction.{pairs, markAll}
-use Rattle.definition.specs.Run.{State, appended, checkedForContradictions, checkForContradictions, stepBy, step, steps, stops, ended, run, rooted, branchNodes, begun, start}
-use Rattle.definition.proofs.Lists.{true-false, or-left, or-right, Some, each-map, upFrom-each, Full, some-map, some-reverseAux, some-reverse, among-from, Among, each-among, each-by, some-among, among-some, zip-right}
-use Rattle.definition.proofs.Nodes.{label, label-stable, chain-keeps, mark-keeps, length-marks}
-use Rattle.definition.proofs.Issued.{rising-distinct}
-use Rattle.definition.proofs.Count.{checked-both, checked-length, length-rooted, pop-some, pop-taken, taken-each}
-use Rattle.definition.proofs.Exact.{step-grows}
-use Rattle.definition.proofs.Forms.{WellFormed}
-use Rattle.definition.proofs.Sound.{marks-known}
-use Rattle.definition.proofs.Treed.{Spot, spot, spots, placed, childAt, In, Tree, Treed, Bare, in-range}
-use Rattle.definition.proofs.Linking.{Free}
-use Rattle.definition.proofs.Growing.{New, append-spots, append-out, root-treed, map-new}
-use Rattle.definition.proofs.Ready.{Fit, fit-start, fit-step}
-use Rattle.definition.proofs.Partners.{path-root, marks-same}
-use Rattle.definition.proofs.Fresh.{Watch, watch-start, watch-step}
-use Rattle.definition.proofs.Spawned.{AllRooted, rooted-start, rooted-step}
+use Rattle.definition.specs.Run.{State, appended, checkedForContradictions, step, stops, run, rooted, branchNodes, begun, start}
+use Rattle.definition.proofs.Basics.Lists.{true-false, Some, each-map, upFrom-each, Full, some-map, some-reverseAux, some-reverse, among-from, Among, each-among, each-by, some-among, among-some, zip-right}
+use Rattle.definition.proofs.Tree.Nodes.{label, label-stable, chain-keeps, mark-keeps, length-marks}
+use Rattle.definition.proofs.Basics.Records.{marks-known}
+use Rattle.definition.proofs.Basics.Identifiers.{rising-distinct}
+use Rattle.definition.proofs.Run.Queueing.{length-rooted, begun-waiting}
+use Rattle.definition.proofs.Run.Popping.{Taken}
+use Rattle.definition.proofs.Run.Stepping.{checked-both, checked-is, checked-length, not-stopped, step-due, run-keeps}
+use Rattle.definition.proofs.Run.Counting.{known-taken}
+use Rattle.definition.proofs.Run.Fullness.{step-grows}
+use Rattle.definition.proofs.Basics.Forms.{WellFormed}
+use Rattle.definition.specs.TreeShape.{Spot, spot, spots, placed, In, Tree, Treed, Bare}
+use Rattle.definition.proofs.Tree.Shape.{in-range}
+use Rattle.definition.proofs.Tree.Linking.{Free}
+use Rattle.definition.proofs.Run.TreeKept.{New, append-spots, append-out, root-treed, map-new}
+use Rattle.definition.proofs.Call.Room.{Fit, fit-start, fit-step}
+use Rattle.definition.proofs.Paths.Pairs.{path-root, marks-same}
+use Rattle.definition.proofs.Paths.Marks.{RunMarksRight, watch-start, watch-step}
+use Rattle.definition.proofs.Paths.Spawners.{AllRooted, rooted-start, rooted-step}
 use Rattle.definition.proofs.Completeness.On.{Says, On, OpenLeaf, on-occurs}
 use Rattle.definition.proofs.Completeness.Frames.{Frame, init-framed}
 use Rattle.definition.proofs.Completeness.Placed.{chain-ends, laid-end, laid-zip}
@@ -115,48 +118,29 @@ module _ (F : Setting) (rs : List Rec) where
       (some-map (λ z (q : Says rs 0 (formAt rs f) (label (nodeAt t z))). subst (Says rs 0 (formAt rs f)) (sym (mark-keeps label (λ j n. refl) found t z)) q) (path t l) h)) (marks rs)
       (on l (subst (λ (g : ℕ → Spot). Bare g l) (fun-ext (mark-keeps spot (λ j n. refl) found t)) (o .bare))))
 
-  saturated-start : Saturated F (start F rs)
+  saturated-start : length (branchNodes rs) ≤ nobody → Saturated F (start F rs)
   unfolding start begun emptyGraph checkedForContradictions
-  saturated-start =
+  saturated-start few =
       record {
         settled = λ x i. checked-both (λ (z : State). Waits (z .waiting) x ⊎ Settled F (start F rs) x) F (begun rs) (inl (waits x (in-range (start F rs .nodes) x i))) (inl (waits x (in-range (start F rs .nodes) x i)));
         frame = checked-both (λ (s : State). Frame F (Settled.begun F s)) F (begun rs) (init-framed F emptyGraph (inl refl)) (init-framed F emptyGraph (inl refl));
         served = checked-both (λ (s : State). Each (Served F s) (s .necessities)) F (begun rs) tt tt;
       }
     where
-      waits : (x : ℕ) → x < length (start F rs .nodes) → Waits (reverse (below (length (branchNodes rs)))) x
-      waits x h = some-reverse (λ y. y ≡ x) (below (length (branchNodes rs))) (among-from (length (branchNodes rs)) 0 x (omega arith) (omega (arith, len)))
+      waits : (x : ℕ) → x < length (start F rs .nodes) → Waits (begun rs .waiting) x
+      waits x h = subst (λ (q : List ℕ). Waits q x) (sym (begun-waiting rs few)) (some-reverse (λ y. y ≡ x) (below (length (branchNodes rs))) (among-from (length (branchNodes rs)) 0 x (omega arith) (omega (arith, len))))
 
 -- ---- the run
 pub record Good (F : Setting) (rs₀ : List Rec) (s : State) : Type 0 where
   pub fit : Fit F (length rs₀) s
-  pub watch : Watch F s
+  pub watch : RunMarksRight F s
   pub rooted : AllRooted s
   pub roots : Roots rs₀ s
   pub saturated : Saturated F s
 
 -- a step that is due takes a node that waits
-pub due : (F : Setting) (s : State) → F .skip ≡ false → stops F s ≡ false → (p : Popped) × (pop F (s .formulas) (s .nodes) (s .waiting) ≡ some p) × (step F s ≡ after F s p)
-unfolding stops ended step stepBy checkForContradictions
-due F s skip e = go (pop F (s .formulas) (s .nodes) (s .waiting)) refl
-  where
-    none-left : (q : List ℕ) → empty q ≡ false → pop F (s .formulas) (s .nodes) q ≡ none → ⊥
-    none-left [] b d = true-false b
-    none-left (x ∷ xs) b d = pop-some F (s .formulas) (s .nodes) x xs d
-
-    go : (o : Option Popped) → pop F (s .formulas) (s .nodes) (s .waiting) ≡ o → (p : Popped) × (pop F (s .formulas) (s .nodes) (s .waiting) ≡ some p) × (step F s ≡ after F s p)
-    go none d = absurd (none-left (s .waiting) (or-left (empty (s .waiting)) _ (or-right (s .proved) _ (or-left (ended F s) _ e))) d)
-    go (some p) d = (p, d, rw (d, skip))
-
--- what every step keeps, the run keeps
-pub run-keeps : (P : State → Type 0) (F : Setting) → ((s : State) → stops F s ≡ false → P s → P (step F s)) → (n : ℕ) (s : State) → P s → P (run n F s)
-unfolding steps
-run-keeps P F f zero s h = h
-run-keeps P F f (suc n) s h = go (stops F s) refl (run-keeps P F f n (step F s))
-  where
-    go : (b : Bool) → stops F s ≡ b → (P (step F s) → P (run n F (step F s))) → P (cond b s (run n F (step F s)))
-    go true e k = h
-    go false e k = k (f s e h)
+pub due : (F : Setting) (s : State) → F .skip ≡ false → stops F s ≡ false → (p : Popped) × Taken (s .waiting) p × (step F s ≡ after F s p)
+due F s skip e = let (p, k, is) = step-due F s (not-stopped F s e .0 .waits) in (p, k, is ∙ checked-is F (appended F s p) skip)
 
 module _ (F : Setting) (rs₀ : List Rec) (skip : F .skip ≡ false) (marked : empty (marks rs₀) ≡ false) where
   -- world 0 occurs on every open path
@@ -168,16 +152,16 @@ module _ (F : Setting) (rs₀ : List Rec) (skip : F .skip ≡ false) (marked : e
       go (f ∷ fs) e h = on-occurs (s .formulas) (s .nodes) l 0 (formAt rs₀ f) (h .0)
 
   module _ (s : State) (g : Good F rs₀ s) (e : stops F s ≡ false) (few : length (step F s .nodes) ≤ nobody) where
-    stepping : (p : Popped) → pop F (s .formulas) (s .nodes) (s .waiting) ≡ some p → step F s ≡ after F s p → Stepping F (length rs₀) s p
+    stepping : (p : Popped) → Taken (s .waiting) p → step F s ≡ after F s p → Stepping F (length rs₀) s p
     unfolding checkedForContradictions
-    stepping p d is =
+    stepping p k is =
         record {
           fit = g .fit;
           going = e;
           few = omega (arith, ap (λ (z : State). length (z .nodes)) is, length-marks (pairs (appended F s p .formulas) (appended F s p .nodes) (leaves (appended F s p .nodes))) (appended F s p .nodes));
           watched = g .watch skip (omega (arith, step-grows F s));
-          known = taken-each (λ x. x < length (s .nodes)) (s .waiting) p (pop-taken F (s .formulas) (s .nodes) (s .waiting) p d) (g .fit .bounded .known) .0;
-          taken = pop-taken F (s .formulas) (s .nodes) (s .waiting) p d;
+          known = known-taken s p (g .fit .bounded .known) k;
+          taken = k;
         }
 
     by-rule : (p : Popped) → Stepping F (length rs₀) s p → (c : Rule ℕ) → expansion (s .formulas) (nodeAt (s .nodes) (p .node) .formula) .rule ≡ c → Saturated F (after F s p)
@@ -202,5 +186,5 @@ module _ (F : Setting) (rs₀ : List Rec) (skip : F .skip ≡ false) (marked : e
 
   pub good-run : length rs₀ ≤ mostRecords → WellFormed rs₀ → (n : ℕ) → length (run n F (start F rs₀) .nodes) ≤ nobody → Good F rs₀ (run n F (start F rs₀))
   good-run small wf n =
-      run-keeps (λ (s : State). length (s .nodes) ≤ nobody → Good F rs₀ s) F (λ s e g few. good-step s (g (omega (arith, step-grows F s))) e few) n (start F rs₀)
-      (λ few. record { fit = fit-start F rs₀ small wf marked; watch = watch-start F rs₀ marked; rooted = rooted-start F rs₀; roots = roots-start F rs₀ small few; saturated = saturated-start F rs₀ })
+      run-keeps stops F (λ (s : State). length (s .nodes) ≤ nobody → Good F rs₀ s) (λ s e g few. good-step s (g (omega (arith, step-grows F s))) e few) n (start F rs₀)
+      (λ few. record { fit = fit-start F rs₀ small wf marked; watch = watch-start F rs₀ marked; rooted = rooted-start F rs₀; roots = roots-start F rs₀ small few; saturated = saturated-start F rs₀ (omega (arith, few, len F rs₀)) })

@@ -20,9 +20,10 @@ use Rattle.definition.specs.Modality.{Necessity, occurs}
 use Rattle.definition.specs.Queue.{Popped}
 use Rattle.definition.specs.Run.{State, checkedForContradictions}
 use Rattle.definition.specs.Countermodel.{keepsEdges}
-use Rattle.definition.proofs.Lists.{either, Some, Among, each-map, each-among, each-both}
-use Rattle.definition.proofs.Nodes.{Label, label}
-use Rattle.definition.proofs.Treed.{spots, In, in-range}
+use Rattle.definition.proofs.Basics.Lists.{either, Some, Among, each-map, each-among, each-both}
+use Rattle.definition.proofs.Tree.Nodes.{Label, label}
+use Rattle.definition.specs.TreeShape.{spots, In}
+use Rattle.definition.proofs.Tree.Shape.{in-range}
 use Rattle.definition.proofs.Completeness.On.{On, OpenLeaf, keeps-like}
 use Rattle.definition.proofs.Completeness.Frames.{Frame}
 use Rattle.definition.proofs.Completeness.Queued.{Waits, taken-or, appended-waits}

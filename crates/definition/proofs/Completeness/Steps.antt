@@ -16,26 +16,26 @@ use Rattle.definition.specs.Graph.{Graph}
 use Rattle.definition.specs.Tree.{Node, newNode, nodeAt, leaves, path, isContradictory}
 use Rattle.definition.specs.Rules.{Rule, nothing, down, split, asPossible, asNecessary, priest, expansion, writtenRule}
 use Rattle.definition.specs.Subtree.{Targeted, flat}
-use Rattle.definition.specs.Modality.{Necessity, Fork, Made, occurs, unvisited, giveOn, leavesOf, reapplyNecessity, isReapplied, reapplyIfOnPath, reapplyNecessityAfterPossibility}
+use Rattle.definition.specs.Modality.{Necessity, Fork, Reapplication, occurs, unvisited, giveOn, leavesOf, reapplyNecessity, isReapplied, reapplyIfOnPath, reapplyNecessityAfterPossibility}
 use Rattle.definition.specs.Queue.{Popped}
 use Rattle.definition.specs.Contradiction.{Pair, pairs}
 use Rattle.definition.specs.Run.{State, LogicRuleResult, applyHere, applyPossibility, applyNecessity, applyRule, apply, appended, checkedForContradictions, stops}
-use Rattle.definition.proofs.Lists.{true-false, Some, some-append-right, some-each, some-map, some-among, each-among, each-map, each-both, each-append, filter-keeps, cond-both, any-none, elem-high, among-elem, some-cases, Among}
-use Rattle.definition.proofs.Nodes.{Label, label, node-append, mark-keeps, length-marks, ext-refl}
-use Rattle.definition.proofs.Issued.{apply-issued}
-use Rattle.definition.proofs.Count.{Taken}
-use Rattle.definition.proofs.Forms.{form-append}
-use Rattle.definition.proofs.Priest
-use Rattle.definition.proofs.Priest.{rule-is-priest, rule-known, made-two}
-use Rattle.definition.proofs.Bounds.{apply-made}
-use Rattle.definition.proofs.Treed.{Spot, spot, spots, In, Treed, Bare, leaves-within, path-distinct}
-use Rattle.definition.proofs.Growing.{append-spots, append-out, apply-new, new-treed}
-use Rattle.definition.proofs.Ready.{Fit, ready}
-use Rattle.definition.proofs.Partners.{partner, pairOf, grown-path, marks-same, Stem, appended-grown}
-use Rattle.definition.proofs.Takers.{closed, grown-append}
-use Rattle.definition.proofs.Marked.{RightMarks, no-partner, open-none, appended-hung, appended-right, old-in}
-use Rattle.definition.proofs.Fresh.{Watched}
-use Rattle.definition.proofs.Below.{path-there}
+use Rattle.definition.proofs.Basics.Lists.{true-false, Some, some-append-right, some-each, some-map, some-among, each-among, each-map, each-both, each-append, filter-keeps, cond-both, any-none, elem-high, among-elem, some-cases, Among}
+use Rattle.definition.proofs.Tree.Nodes.{Label, label, node-append, mark-keeps, length-marks, ext-refl}
+use Rattle.definition.proofs.Basics.Identifiers.{apply-issued}
+use Rattle.definition.proofs.Run.Popping.{Taken}
+use Rattle.definition.proofs.Basics.Forms.{form-append}
+use Rattle.definition.proofs.Soundness.Priest
+use Rattle.definition.proofs.Soundness.Priest.{rule-is-priest, rule-known, made-two}
+use Rattle.definition.proofs.Call.Bounds.{apply-made}
+use Rattle.definition.specs.TreeShape.{Spot, spot, spots, In, Treed, Bare}
+use Rattle.definition.proofs.Tree.Shape.{leaves-within, path-distinct}
+use Rattle.definition.proofs.Run.TreeKept.{append-spots, append-out, apply-new, new-treed}
+use Rattle.definition.proofs.Call.Room.{Fit, ready}
+use Rattle.definition.specs.Shortcuts.{partner, pairOf, RightMarks}
+use Rattle.definition.proofs.Paths.Pairs.{grown-path, marks-same, Stem, appended-grown, path-there}
+use Rattle.definition.proofs.Paths.Takers.{closed, grown-append}
+use Rattle.definition.proofs.Paths.Marks.{MarksRight, no-partner, open-none, appended-hung, appended-right, old-in}
 use Rattle.definition.proofs.Completeness.On.{Says, On, OpenLeaf, occurs-some, elem-occurs}
 use Rattle.definition.proofs.Completeness.Placed.{Shows, Side, open-back, result-grew}
 
@@ -67,7 +67,7 @@ module _ (t : List Node) (r : Treed t) where
   after-aimed (n ∷ ns) g k next =
       let one = reapplyIfOnPath t g k next n in
       each-append _ (one .subtrees) _
-      (cond-both (λ (m : Made). Aimed (length t) (m .subtrees)) (isReapplied t k n) (reapplyNecessity t g (some k) next n) (record { nodes = []; subtrees = [] }) (reapply-aimed g (some k) next n) tt)
+      (cond-both (λ (m : Reapplication). Aimed (length t) (m .subtrees)) (isReapplied t k n) (reapplyNecessity t g (some k) next n) (record { nodes = []; subtrees = [] }) (reapply-aimed g (some k) next n) tt)
       (after-aimed ns g k (next + length (one .nodes)))
 
 rule-aimed : (F : Setting) (s : State) (x : ℕ) (more : List Rec) (c : Rule ℕ) → Treed (s .nodes) → x < length (s .nodes) → Aimed (length (s .nodes)) (applyRule F s x more c .subtrees)
@@ -88,7 +88,7 @@ pub record Stepping (F : Setting) (k : ℕ) (s : State) (p : Popped) : Type 0 wh
   pub fit : Fit F k s
   pub going : stops F s ≡ false
   pub few : length (appended F s p .nodes) ≤ nobody
-  pub watched : Watched s
+  pub watched : MarksRight s
   pub known : p .node < length (s .nodes)
   pub taken : Taken (s .waiting) p
 

@@ -4,7 +4,7 @@ use mathlib.Core.Bool.{Bool, _&&_, true, false, not, cond, Bool·beq}
 use mathlib.Core.List.{List, [], _∷_, map}
 use mathlib.Core.Option.{Option, none, some}
 use mathlib.Core.Logic.{_⊎_, inl, inr, ⊎-map}
-use Prim.Native.Nat.{ℕ, suc, _≤_}
+use Prim.Native.Nat.{ℕ, _≤_}
 use native.Mathlib.Omega.{arith}
 use lib.ListN.{length}
 use Rattle.definition.specs.Limits.{mostIdentifiers}
@@ -27,16 +27,18 @@ use Rattle.definition.specs.Claim.{Proved}
 use Rattle.definition.specs.Countermodel.{keepsEdges, readOff, firstOpen, Countermodel}
 use Rattle.definition.specs.Completeness.{InTime, Open, HasCountermodel, Complete, ExactInTime}
 use Rattle.definition.specs.Fits.{RecordFits}
-use Rattle.definition.proofs.Lists.{true-false, either, or-cases, and-left, and-right, and-both, some-among, each-map, each-of, each-among, among-elem}
-use Rattle.definition.proofs.Exact.{final-stops}
-use Rattle.definition.proofs.Accepted.{Accepted}
-use Rattle.definition.proofs.Priest.{Claims}
-use Rattle.definition.proofs.Edges.{init-worlds}
-use Rattle.definition.proofs.Sound.{demand-3, not-full}
-use Rattle.definition.proofs.Treed.{spots, In, Treed, Bare, leaves-bare}
-use Rattle.definition.proofs.Partners.{pairOf}
-use Rattle.definition.proofs.Below.{path-there}
-use Rattle.definition.proofs.Calls.{ended-of, final-bounded}
+use Rattle.definition.proofs.Basics.Lists.{true-false, either, or-cases, and-left, and-right, and-both, some-among, each-map, each-of, each-among, among-elem}
+use Rattle.definition.proofs.Run.Fullness.{final-stops}
+use Rattle.definition.proofs.Run.Accepted.{Accepted}
+use Rattle.definition.proofs.Soundness.Priest.{Claims}
+use Rattle.definition.proofs.Soundness.Edges.{init-worlds}
+use Rattle.definition.proofs.Soundness.Theorem.{demand-3}
+use Rattle.definition.proofs.Run.Stepping.{not-full}
+use Rattle.definition.specs.TreeShape.{spots, In, Treed, Bare}
+use Rattle.definition.proofs.Tree.Shape.{leaves-bare}
+use Rattle.definition.specs.Shortcuts.{pairOf}
+use Rattle.definition.proofs.Paths.Pairs.{path-there}
+use Rattle.definition.proofs.Call.Outcomes.{ended-of, final-bounded}
 use Rattle.definition.proofs.Completeness.On.{On, OpenLeaf, on-occurs, elem-occurs, keeps-of}
 use Rattle.definition.proofs.Completeness.Hintikka.{hintikka}
 use Rattle.definition.proofs.Completeness.Atoms.{on-says, denies}

@@ -4,11 +4,8 @@ use borrow.Author.Needs.{needs}
 use Rattle.formula.proofs.right_at.Statement.{statement}
 use Rattle.formula.proofs.right_at.Tie as tie
 
-field-requires : tie.Need-field-requires
-field-requires c κs = search needs
-
 returns : tie.Need-returns
 returns c = λ rs p h. c .field .ensures rs p h (omega arith) refl
 
 pub right-at-spec : {M : Type 1} → statement M
-right-at-spec = tie.close (tie.spec field-requires returns)
+right-at-spec = tie.close (tie.spec (search needs) returns)

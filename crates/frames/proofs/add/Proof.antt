@@ -6,20 +6,11 @@ use Rattle.frames.proofs.Windows.{window-exact, window-sum}
 use Rattle.frames.proofs.add.Statement.{statement}
 use Rattle.frames.proofs.add.Tie as tie
 
-add-result : tie.Need-add-result
-add-result c = search needs
-
 returns : tie.Need-returns
 returns c = sym (window-exact _ (omega arith))
-
-add-result-2 : tie.Need-add-result-2
-add-result-2 c = search needs
-
-add-result-3 : tie.Need-add-result-3
-add-result-3 c = search needs
 
 returns-2 : tie.Need-returns-2
 returns-2 c = window-sum _ _ (⊎-elim (λ w. omega arith) (λ w. omega arith) (c .if1 .came))
 
 pub add-spec : {M : Type 1} → statement M
-add-spec = tie.close (tie.spec add-result returns add-result-2 add-result-3 returns-2)
+add-spec = tie.close (tie.spec (search needs) returns (search needs) (search needs) returns-2)

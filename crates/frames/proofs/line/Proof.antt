@@ -3,11 +3,8 @@ use borrow.Author.Needs.{needs}
 use Rattle.frames.proofs.line.Statement.{statement}
 use Rattle.frames.proofs.line.Tie as tie
 
-put-line-requires : tie.Need-put-line-requires
-put-line-requires c κs = search needs
-
 returns : tie.Need-returns
 returns c = (put-counts (c .put-line .ensures .0), c .put-line .ensures .0 .holds)
 
 pub line-spec : {M : Type 1} → statement M
-line-spec = tie.close (tie.spec put-line-requires returns)
+line-spec = tie.close (tie.spec (search needs) returns)

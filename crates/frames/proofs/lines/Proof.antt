@@ -1,3 +1,4 @@
+-- After each turn the lines of the frames before `flags` stand at the start of the text, and `at` is where they end; after eight turns these are all lines.
 use Prim.Native.Nat.{_*_, _-_, _≤_}
 use Rattle.frames.specs.Line.{lineLength}
 use Rattle.frames.specs.Lines.{linesBelow}
@@ -16,15 +17,6 @@ abbrev μ-loop : tie.MeasureT-loop
 loop-holds : tie.Need-loop-holds Inv-loop μ-loop
 loop-holds c = (lines-none _ _, search needs, search needs)
 
-put-frame-requires : tie.Need-put-frame-requires Inv-loop μ-loop
-put-frame-requires c κs = search needs
-
-add-flags : tie.Need-add-flags Inv-loop μ-loop
-add-flags c = search needs
-
-loop-less : tie.Need-loop-less Inv-loop μ-loop
-loop-less c = search needs
-
 loop-again : tie.Need-loop-again Inv-loop μ-loop
 loop-again c = (lines-next _ _ (c .before .before .before .loop .inv .0) (c .put-frame .ensures .0), search needs, search needs)
 
@@ -34,4 +26,4 @@ returns c = lines-all _ _ (c .before .loop .inv .0) (search needs)
 pub lines-spec : {M : Type 1} → statement M
 lines-spec =
     tie.close
-    (tie.spec Inv-loop μ-loop loop-holds put-frame-requires add-flags loop-less loop-again returns)
+    (tie.spec Inv-loop μ-loop loop-holds (search needs) (search needs) (search needs) loop-again returns)

@@ -5,26 +5,11 @@ use Rattle.frames.proofs.Texts.{put-number}
 use Rattle.frames.proofs.put_number.Statement.{statement}
 use Rattle.frames.proofs.put_number.Tie as tie
 
-decimal-requires : tie.Need-decimal-requires
-decimal-requires c κs = search needs
-
-array-share-prefix-digits : tie.Need-array-share-prefix-digits
-array-share-prefix-digits c = search needs
-
-slice-aggregate-put : tie.Need-slice-aggregate-put
-slice-aggregate-put c = search needs
-
 put-requires : tie.Need-put-requires
 put-requires c κs = omega (arith, length-decimal _ _ _ (search needs) (c .before .before .decimal .ensures .1 .0) (c .before .before .decimal .ensures .1 .1))
 
-slice-aggregate-put-2 : tie.Need-slice-aggregate-put-2
-slice-aggregate-put-2 c = search needs
-
 put-requires-2 : tie.Need-put-requires-2
 put-requires-2 c κs = omega (arith, c .before .before .before .before .put .ensures .moved, c .before .before .before .before .put .ensures .size, length-decimal _ _ _ (search needs) (c .before .before .before .before .before .before .before .decimal .ensures .1 .0) (c .before .before .before .before .before .before .before .decimal .ensures .1 .1))
-
-same-length : tie.Need-same-length
-same-length c = search needs
 
 returns : tie.Need-returns
 returns c = put-number _ _ _ (search needs) (c .before .before .before .before .before .before .before .before .before .before .decimal .ensures .1 .0) (c .before .before .before .before .before .before .before .before .before .before .decimal .ensures .1 .1) (c .before .before .before .before .before .before .before .put .ensures) (c .before .before .put2 .ensures)
@@ -33,11 +18,11 @@ pub put-number-spec : {M : Type 1} → statement M
 put-number-spec =
     tie.close
     (tie.spec
-    decimal-requires
-    array-share-prefix-digits
-    slice-aggregate-put
+    (search needs)
+    (search needs)
+    (search needs)
     put-requires
-    slice-aggregate-put-2
+    (search needs)
     put-requires-2
-    same-length
+    (search needs)
     returns)

@@ -1,3 +1,4 @@
+-- Every turn keeps the branch's length, and `count - n` falls to 0; nothing is claimed of the bytes.
 use mathlib.Core.Path.{_≡_}
 use Prim.Native.Nat.{_-_}
 use lib.ListN.{length}
@@ -11,24 +12,6 @@ Inv-loop branch₀ count n₀ branch n = length branch ≡ length branch₀
 abbrev μ-loop : tie.MeasureT-loop
 μ-loop branch₀ count n₀ branch n = count - n
 
-loop-holds : tie.Need-loop-holds Inv-loop μ-loop
-loop-holds c = search needs
-
-put-requires : tie.Need-put-requires Inv-loop μ-loop
-put-requires c κs = search needs
-
-add-n : tie.Need-add-n Inv-loop μ-loop
-add-n c = search needs
-
-loop-less : tie.Need-loop-less Inv-loop μ-loop
-loop-less c = search needs
-
-loop-again : tie.Need-loop-again Inv-loop μ-loop
-loop-again c = search needs
-
-same-length : tie.Need-same-length Inv-loop μ-loop
-same-length c = search needs
-
 returns : tie.Need-returns Inv-loop μ-loop
 returns c = tt
 
@@ -38,10 +21,10 @@ put-atoms-spec =
     (tie.spec
     Inv-loop
     μ-loop
-    loop-holds
-    put-requires
-    add-n
-    loop-less
-    loop-again
-    same-length
+    (search needs)
+    (search needs)
+    (search needs)
+    (search needs)
+    (search needs)
+    (search needs)
     returns)

@@ -10,4 +10,4 @@ slice-aggregate-lines c = sym (length-take-le _ _ (search needs))
 pub show-bytes-spec : {M : Type 1} → statement M
 show-bytes-spec =
     tie.close
-    (tie.spec (λ c. search needs) slice-aggregate-lines (λ c κs. search needs) (λ c κs. search needs) (λ c. search needs) (λ c. search needs) (λ c κs. search needs) (λ c. search needs))
+    (tie.spec (search needs) slice-aggregate-lines (search needs) (search needs) (search needs) (search needs) (search needs) (search needs))

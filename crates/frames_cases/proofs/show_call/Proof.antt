@@ -10,4 +10,4 @@ slice-aggregate-prove-2 c = sym (length-take-le _ _ (search needs))
 pub show-call-spec : {M : Type 1} → statement M
 show-call-spec =
     tie.close
-    (tie.spec (λ c. search needs) (λ c. search needs) (λ c. search needs) slice-aggregate-prove-2 (λ c. search needs) (λ c. search needs) (λ c κs. search needs) (λ c κs. search needs) (λ c κs. search needs) (λ c. search needs) (λ c. search needs) (λ c κs. search needs) (λ c. search needs))
+    (tie.spec (search needs) (search needs) (search needs) slice-aggregate-prove-2 (search needs) (search needs) (search needs) (search needs) (search needs) (search needs) (search needs) (search needs) (search needs))

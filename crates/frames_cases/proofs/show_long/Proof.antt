@@ -1,3 +1,4 @@
+-- Every turn keeps the branch's length and takes one part of 4,096 bytes from what is left; what is left at the end is within one part.
 use lib.Seq.{length-take-le}
 use mathlib.Core.Path.{_≡_, sym}
 use Prim.Native.Nat.{_≤_}
@@ -12,41 +13,8 @@ Inv-loop title branch₀ count part seen₀ left₀ branch seen left = (length b
 abbrev μ-loop : tie.MeasureT-loop
 μ-loop title branch₀ count part seen₀ left₀ branch seen left = left
 
-buffer-requires : tie.Need-buffer-requires Inv-loop μ-loop
-buffer-requires c κs = search needs
-
-loop-holds : tie.Need-loop-holds Inv-loop μ-loop
-loop-holds c = search needs
-
-slice-aggregate-keep : tie.Need-slice-aggregate-keep Inv-loop μ-loop
-slice-aggregate-keep c = search needs
-
-keep-requires : tie.Need-keep-requires Inv-loop μ-loop
-keep-requires c κs = search needs
-
-sub-left : tie.Need-sub-left Inv-loop μ-loop
-sub-left c = search needs
-
-loop-less : tie.Need-loop-less Inv-loop μ-loop
-loop-less c = search needs
-
-loop-again : tie.Need-loop-again Inv-loop μ-loop
-loop-again c = search needs
-
-array-share-prefix-part : tie.Need-array-share-prefix-part Inv-loop μ-loop
-array-share-prefix-part c = search needs
-
 slice-aggregate-keep-2 : tie.Need-slice-aggregate-keep-2 Inv-loop μ-loop
 slice-aggregate-keep-2 c = sym (length-take-le _ _ (search needs))
-
-keep-requires-2 : tie.Need-keep-requires-2 Inv-loop μ-loop
-keep-requires-2 c κs = search needs
-
-show-bytes-requires : tie.Need-show-bytes-requires Inv-loop μ-loop
-show-bytes-requires c κs = search needs
-
-same-length : tie.Need-same-length Inv-loop μ-loop
-same-length c = search needs
 
 returns : tie.Need-returns Inv-loop μ-loop
 returns c = tt
@@ -57,16 +25,16 @@ show-long-spec =
     (tie.spec
     Inv-loop
     μ-loop
-    buffer-requires
-    loop-holds
-    slice-aggregate-keep
-    keep-requires
-    sub-left
-    loop-less
-    loop-again
-    array-share-prefix-part
+    (search needs)
+    (search needs)
+    (search needs)
+    (search needs)
+    (search needs)
+    (search needs)
+    (search needs)
+    (search needs)
     slice-aggregate-keep-2
-    keep-requires-2
-    show-bytes-requires
-    same-length
+    (search needs)
+    (search needs)
+    (search needs)
     returns)

@@ -13,15 +13,6 @@ first c = ⊎-elim (λ w. ran (w .0 .taken) (λ h p. rw (w .3) (w .2 .ensures h 
 second : (c : tie.Joined2) → Ran (c .before .before .args .worlds) (c .before .before .args .setting .«is_symmetric») addMissingSymmetricVertices (c .before .if1 .edges) (c .if2 .edges)
 second c = ⊎-elim (λ w. ran (w .0 .taken) (λ h p. rw (w .3) (w .2 .ensures h p))) (λ w. idle (w .0 .left) (w .1)) (c .if2 .came)
 
-add-missing-reflexive-vertices-requires : tie.Need-add-missing-reflexive-vertices-requires
-add-missing-reflexive-vertices-requires c κs = search needs
-
-add-missing-symmetric-vertices-requires : tie.Need-add-missing-symmetric-vertices-requires
-add-missing-symmetric-vertices-requires c κs = search needs
-
-add-missing-transitive-vertices-requires : tie.Need-add-missing-transitive-vertices-requires
-add-missing-transitive-vertices-requires c κs = search needs
-
 returns : tie.Need-returns
 unfolding asked
 returns c = λ g d. ran-all _ (first (c .before .before .before .before)) (second (c .before .before .before)) (ran (c .before .before .if3 .taken) (λ h p. c .add-missing-transitive-vertices .ensures h p)) g d
@@ -34,8 +25,8 @@ pub add-missing-graph-vertices-spec : {M : Type 1} → statement M
 add-missing-graph-vertices-spec =
     tie.close
     (tie.spec
-    add-missing-reflexive-vertices-requires
-    add-missing-symmetric-vertices-requires
-    add-missing-transitive-vertices-requires
+    (search needs)
+    (search needs)
+    (search needs)
     returns
     returns-2)

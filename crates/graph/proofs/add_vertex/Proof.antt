@@ -5,26 +5,11 @@ use borrow.Author.Needs.{needs}
 use Rattle.graph.proofs.add_vertex.Statement.{statement}
 use Rattle.graph.proofs.add_vertex.Tie as tie
 
-cast-from : tie.Need-cast-from
-cast-from c = search needs
-
-cast-to : tie.Need-cast-to
-cast-to c = search needs
-
 returns : tie.Need-returns
 returns c = λ e q. q ∙ grid-out e _ _ (inl (c .if1 .taken))
 
 returns-2 : tie.Need-returns-2
 returns-2 c = λ e q. q ∙ grid-out e _ _ (inr (c .if2 .taken))
-
-mul-edges : tie.Need-mul-edges
-mul-edges c = search needs
-
-add-edges : tie.Need-add-edges
-add-edges c = search needs
-
-element-write-edges : tie.Need-element-write-edges
-element-write-edges c = search needs
 
 returns-3 : tie.Need-returns-3
 returns-3 c = λ e q. grid-set e _ _ q (c .before .if1 .left) (c .if2 .left)
@@ -33,11 +18,11 @@ pub add-vertex-spec : {M : Type 1} → statement M
 add-vertex-spec =
     tie.close
     (tie.spec
-    cast-from
-    cast-to
+    (search needs)
+    (search needs)
     returns
     returns-2
-    mul-edges
-    add-edges
-    element-write-edges
+    (search needs)
+    (search needs)
+    (search needs)
     returns-3)

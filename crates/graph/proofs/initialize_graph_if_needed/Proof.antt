@@ -6,12 +6,9 @@ use Rattle.graph.proofs.initialize_graph_if_needed.Tie as tie
 returns : tie.Need-returns
 returns c = λ g d. init-kept _ d (c .if1 .taken)
 
-add-missing-graph-vertices-requires : tie.Need-add-missing-graph-vertices-requires
-add-missing-graph-vertices-requires c κs = search needs
-
 returns-2 : tie.Need-returns-2
 returns-2 c = λ g d. init-made _ d (c .before .before .if1 .left) (c .add-missing-graph-vertices .ensures)
 
 pub initialize-graph-if-needed-spec : {M : Type 1} → statement M
 initialize-graph-if-needed-spec =
-    tie.close (tie.spec returns add-missing-graph-vertices-requires returns-2)
+    tie.close (tie.spec returns (search needs) returns-2)

@@ -7,4 +7,4 @@ returns : tie.Need-returns
 returns c = let formula = c .before .before .before .new-node .ensures in (formula .0 .id, λ ns h. two-nodes ns _ _ (c .before .new-node2 .ensures .1 _ (formula .1 ns h)))
 
 pub fork-nodes-spec : {M : Type 1} → statement M
-fork-nodes-spec = tie.close (tie.spec (λ c κs. search needs) (λ c κs. search needs) returns)
+fork-nodes-spec = tie.close (tie.spec (search needs) (search needs) returns)

@@ -1,58 +1,42 @@
-use mathlib.Core.Path.{sym, _∙_}
+use mathlib.Core.Path.{sym, ap, _∙_}
 use mathlib.Core.Option.{some}
 use native.Mathlib.Omega.{arith}
 use lib.ListN.{getD}
-use Rattle.arrays.proofs.Listed.{listed-none, listed-count}
+use Rattle.arrays.proofs.Listed.{listed-none}
+use Rattle.bits.specs.Worlds.{worldsIn}
+use Rattle.bits.proofs.Worlds.{worlds-none}
 use Rattle.modality.specs.Seen.{Seen}
-use Rattle.necessities.proofs.Stacks.{stack-row}
-use Rattle.logic.proofs.Reapply.{row-as, stands, visit-fits, visit-low, paths-own, paths-few, paths-seen, gave-full, kept-idle, stack-idle, kept-out, stack-out, kept-in, stack-in}
+use Rattle.logic.proofs.Reapply.{stands, paths-own, paths-few, paths-seen, gave-full, kept-idle, stack-idle, kept-out, stack-out, kept-in, stack-in}
 use borrow.Author.Needs.{needs}
 use Rattle.logic.proofs.reapply_if_on_path.Statement.{statement}
 use Rattle.logic.proofs.reapply_if_on_path.Tie as tie
 
 returns : tie.Need-returns
-returns c = λ t more g ns none rs n i order leafBits fk s low is fe d b tree at seen h list.
+returns c = λ t more g ns none rs n i bits fk s is fe d b tree at seen h list.
     (gave-full _ h (c .if1 .taken), λ fits. absurd (omega (arith, fits, c .if1 .taken)))
 
-worlds-to-visit-requires : tie.Need-worlds-to-visit-requires
-worlds-to-visit-requires c κs = search needs
-
 returns-2 : tie.Need-returns-2
-returns-2 c = λ t more g ns none rs n i order leafBits fk s low is fe d b tree at seen h list.
-    let nec = getD ns i none in
-    let w = c .before .worlds-to-visit .ensures g nec leafBits (row-as (sym is) (stack-row s none i low)) d listed-none in
-    let e = listed-count w (visit-fits g nec d w) ∙ c .if2 .taken in
+returns-2 c = λ t more g ns none rs n i bits fk s is fe d b tree at seen h list.
+    let w = c .before .worlds-to-visit .ensures g (getD ns i none) bits (s .stored none i _ is) d in
+    let e = sym w ∙ ap worldsIn (c .if2 .taken) ∙ worlds-none in
     (kept-idle t g fk ns i none e _ h list, λ _. stack-idle t g fk ns i none e s)
 
-spawner-at-requires : tie.Need-spawner-at-requires
-spawner-at-requires c κs = search needs
-
-is-reapplied-requires : tie.Need-is-reapplied-requires
-is-reapplied-requires c κs = search needs
-
-leaves-through-requires : tie.Need-leaves-through-requires
-leaves-through-requires c κs = search needs
-
-reapply-necessity-requires : tie.Need-reapply-necessity-requires
-reapply-necessity-requires c κs = search needs
-
 returns-3 : tie.Need-returns-3
-returns-3 c = λ t more g ns none rs n i order leafBits fk s low is fe d b tree at seen h list.
+returns-3 c = λ t more g ns none rs n i bits fk s is fe d b tree at seen h list.
     let nec = getD ns i none in
-    let row = row-as (sym is) (stack-row s none i low) in
-    let z = stands t more b h (omega (arith, c .before .before .before .before .before .before .before .before .before .before .before .before .before .before .before .before .before .if1 .left)) in
-    let w = c .before .before .before .before .before .before .before .before .before .before .before .before .before .before .worlds-to-visit .ensures g nec leafBits row d listed-none in
-    let own = c .before .before .before .before .before .before .before .before .before .before .before .before .spawner-at .ensures nec _ _ row in
-    let e = c .before .before .before .before .before .before .before .before .before .before .is-reapplied .ensures t fk nec tree at fe (sym own) z in
-    let on = paths-own t tree nec at own (c .before .before .before .before .before .before .leaves-through .ensures t tree z listed-none) in
-    let k = c .reapply-necessity .ensures t more g (some fk) ns none rs n i order leafBits s low is w (visit-fits g nec d w) (visit-low g nec d) on (paths-few t tree nec z on) (paths-seen (Seen t (some fk) _) t nec seen) h list in
-    (kept-in t g fk ns i none e (c .before .before .before .before .before .before .before .before .before .if3 .taken) (k .0), λ _. stack-in t g fk ns i none e (c .before .before .before .before .before .before .before .before .before .if3 .taken) (k .1))
+    let row = s .stored none i _ is in
+    let z = stands t more b h (omega (arith, c .before .before .before .before .before .before .before .before .before .before .before .before .before .before .before .before .if1 .left)) in
+    let w = c .before .before .before .before .before .before .before .before .before .before .before .before .before .before .worlds-to-visit .ensures g nec bits row d in
+    let own = c .before .before .before .before .before .before .before .before .before .before .before .spawner-at .ensures nec _ row in
+    let e = c .before .before .before .before .before .before .before .before .before .is-reapplied .ensures t fk nec tree at fe (sym own) z in
+    let on = paths-own t tree nec at own (c .before .before .before .before .before .leaves-through .ensures t tree z listed-none) in
+    let k = c .reapply-necessity .ensures t more g (some fk) ns none rs n i bits s is w on (paths-few t tree nec z on) (paths-seen (Seen t (some fk) _) t nec seen) h list in
+    (kept-in t g fk ns i none e (c .before .before .before .before .before .before .before .before .if3 .taken) (k .0), λ _. stack-in t g fk ns i none e (c .before .before .before .before .before .before .before .before .if3 .taken) (k .1))
 
 returns-4 : tie.Need-returns-4
-returns-4 c = λ t more g ns none rs n i order leafBits fk s low is fe d b tree at seen h list.
+returns-4 c = λ t more g ns none rs n i bits fk s is fe d b tree at seen h list.
     let nec = getD ns i none in
-    let row = row-as (sym is) (stack-row s none i low) in
-    let e = c .before .is-reapplied .ensures t fk nec tree at fe (sym (c .before .before .before .spawner-at .ensures nec _ _ row)) (stands t more b h (omega (arith, c .before .before .before .before .before .before .before .before .if1 .left))) in
+    let e = c .before .is-reapplied .ensures t fk nec tree at fe (sym (c .before .before .before .spawner-at .ensures nec _ (s .stored none i _ is))) (stands t more b h (omega (arith, c .before .before .before .before .before .before .before .before .if1 .left))) in
     (kept-out t g fk ns i none _ e (c .if3 .left) h list, λ fits. stack-out t g fk ns i none e (c .if3 .left) s)
 
 pub reapply-if-on-path-spec : {M : Type 1} → statement M
@@ -60,11 +44,11 @@ reapply-if-on-path-spec =
     tie.close
     (tie.spec
     returns
-    worlds-to-visit-requires
+    (search needs)
     returns-2
-    spawner-at-requires
-    is-reapplied-requires
-    leaves-through-requires
-    reapply-necessity-requires
+    (search needs)
+    (search needs)
+    (search needs)
+    (search needs)
     returns-3
     returns-4)

@@ -4,9 +4,6 @@ use borrow.Author.Needs.{needs}
 use Rattle.modality.proofs.forks_at.Statement.{statement}
 use Rattle.modality.proofs.forks_at.Tie as tie
 
-is-requires : tie.Need-is-requires
-is-requires c κs = search needs
-
 returns : tie.Need-returns
 returns c = and-second refl (c .before .if1 .taken) (c .is .ensures)
 
@@ -14,4 +11,4 @@ returns-2 : tie.Need-returns-2
 returns-2 c = and-first refl _ (c .if1 .left)
 
 pub forks-at-spec : {M : Type 1} → statement M
-forks-at-spec = tie.close (tie.spec is-requires returns returns-2)
+forks-at-spec = tie.close (tie.spec (search needs) returns returns-2)

@@ -5,20 +5,8 @@ use borrow.Author.Needs.{needs}
 use Rattle.modality.proofs.is_reapplied.Statement.{statement}
 use Rattle.modality.proofs.is_reapplied.Tie as tie
 
-is-placed-before-requires : tie.Need-is-placed-before-requires
-is-placed-before-requires c κs = search needs
-
-is-placed-before-requires-2 : tie.Need-is-placed-before-requires-2
-is-placed-before-requires-2 c κs = search needs
-
-path-goes-through-requires : tie.Need-path-goes-through-requires
-path-goes-through-requires c κs = search needs
-
 returns : tie.Need-returns
 returns c = λ t k n r h e f d. sym (c .if3 .taken) ∙ or-first (c .before .path-goes-through .ensures t d) _ (c .if3 .taken) ∙ one-above t r k n h e f (c .before .before .before .before .before .is-placed-before .ensures t d) (c .before .before .before .is-placed-before2 .ensures t d) (c .before .before .before .before .if1 .taken) (c .before .before .if2 .taken)
-
-path-goes-through-requires-2 : tie.Need-path-goes-through-requires-2
-path-goes-through-requires-2 c κs = search needs
 
 returns-2 : tie.Need-returns-2
 returns-2 c = λ t k n r h e f d. or-second (c .before .before .path-goes-through .ensures t d) (c .before .if3 .left) (c .path-goes-through2 .ensures t d) ∙ one-above t r k n h e f (c .before .before .before .before .before .before .is-placed-before .ensures t d) (c .before .before .before .before .is-placed-before2 .ensures t d) (c .before .before .before .before .before .if1 .taken) (c .before .before .before .if2 .taken)
@@ -33,11 +21,11 @@ pub is-reapplied-spec : {M : Type 1} → statement M
 is-reapplied-spec =
     tie.close
     (tie.spec
-    is-placed-before-requires
-    is-placed-before-requires-2
-    path-goes-through-requires
+    (search needs)
+    (search needs)
+    (search needs)
     returns
-    path-goes-through-requires-2
+    (search needs)
     returns-2
     returns-3
     returns-4)

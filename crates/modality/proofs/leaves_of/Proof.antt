@@ -1,3 +1,4 @@
+-- After j turns the list has, behind what it had, the leaves among the first j whose path runs through a leaf of the necessity.
 use borrow.Author.Needs.{needs}
 use Prim.Native.Nat.{ℕ, _≤_, _-_}
 use mathlib.Core.List.{List, _++_}
@@ -17,28 +18,13 @@ use Rattle.modality.proofs.leaves_of.Statement.{statement}
 use Rattle.modality.proofs.leaves_of.Tie as tie
 
 abbrev Inv-loop : tie.InvT-loop
-Inv-loop tree base leafs k all m out₀ c n₀ j₀ out n j = (j ≤ m) × ((t : List Node) (s : Necessity) (ls l : List ℕ) → Stands t base tree → InRow k (s .leaves) leafs → Listed ls m all → m ≤ mostIdentifiers → Listed l c out₀ → Listed (l ++ filter (through t s) (take j ls)) n out)
+Inv-loop nodes base leaves k all m out₀ c n₀ j₀ out n j = (j ≤ m) × ((t : List Node) (s : Necessity) (ls l : List ℕ) → Stands t base nodes → InRow k (s .leaves) leaves → Listed ls m all → m ≤ mostIdentifiers → Listed l c out₀ → Listed (l ++ filter (through t s) (take j ls)) n out)
 
 abbrev μ-loop : tie.MeasureT-loop
-μ-loop tree base leafs k all m out₀ c n₀ j₀ out n j = m - j
+μ-loop nodes base leaves k all m out₀ c n₀ j₀ out n j = m - j
 
 loop-holds : tie.Need-loop-holds Inv-loop μ-loop
 loop-holds c = (search needs, λ t s ls l d r a h p. fill-start (through t s) ls l p)
-
-nth-requires : tie.Need-nth-requires Inv-loop μ-loop
-nth-requires c κs = search needs
-
-path-runs-through-requires : tie.Need-path-runs-through-requires Inv-loop μ-loop
-path-runs-through-requires c κs = search needs
-
-push-if-requires : tie.Need-push-if-requires Inv-loop μ-loop
-push-if-requires c κs = search needs
-
-add-j : tie.Need-add-j Inv-loop μ-loop
-add-j c = search needs
-
-loop-less : tie.Need-loop-less Inv-loop μ-loop
-loop-less c = search needs
 
 loop-again : tie.Need-loop-again Inv-loop μ-loop
 loop-again c = (search needs, λ t s ls l d r a h p. fill-next (through t s) ls l _ _ (omega (arith, listed-count a h, c .before .before .before .before .loop-test .taken)) (c .before .before .before .nth .ensures .0 ls _ a h) (c .before .before .path-runs-through .ensures t s d r) (c .before .before .before .before .before .loop .inv .1 t s ls l d r a h p) (c .push-if .ensures))
@@ -53,10 +39,10 @@ leaves-of-spec =
     Inv-loop
     μ-loop
     loop-holds
-    nth-requires
-    path-runs-through-requires
-    push-if-requires
-    add-j
-    loop-less
+    (search needs)
+    (search needs)
+    (search needs)
+    (search needs)
+    (search needs)
     loop-again
     returns)

@@ -4,17 +4,11 @@ use borrow.Author.Needs.{needs}
 use Rattle.modality.proofs.parent_before.Statement.{statement}
 use Rattle.modality.proofs.parent_before.Tie as tie
 
-cast-if1 : tie.Need-cast-if1
-cast-if1 c = search needs
-
 returns : tie.Need-returns
 returns c = λ t d. stands-out (λ (n : Node). n .parent) d _ (c .if1 .taken)
-
-parent-of-requires : tie.Need-parent-of-requires
-parent-of-requires c κs = search needs
 
 returns-2 : tie.Need-returns-2
 returns-2 c = λ t d. stands-in (λ (n : Node). n .parent) d _ (c .before .if1 .left) (c .parent-of .ensures)
 
 pub parent-before-spec : {M : Type 1} → statement M
-parent-before-spec = tie.close (tie.spec cast-if1 returns parent-of-requires returns-2)
+parent-before-spec = tie.close (tie.spec (search needs) returns (search needs) returns-2)

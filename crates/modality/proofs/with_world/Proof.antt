@@ -6,14 +6,8 @@ use Rattle.modality.proofs.with_world.Tie as tie
 returns : tie.Need-returns
 returns c = world-high _ _ 0 (c .if1 .taken)
 
-cast-with-bit : tie.Need-cast-with-bit
-cast-with-bit c = search needs
-
-with-bit-requires : tie.Need-with-bit-requires
-with-bit-requires c κs = search needs
-
 returns-2 : tie.Need-returns-2
 returns-2 c = world-low _ _ _ (c .before .before .if1 .left) (c .with-bit .ensures)
 
 pub with-world-spec : {M : Type 1} → statement M
-with-world-spec = tie.close (tie.spec returns cast-with-bit with-bit-requires returns-2)
+with-world-spec = tie.close (tie.spec returns (search needs) (search needs) returns-2)

@@ -4,17 +4,11 @@ use borrow.Author.Needs.{needs}
 use Rattle.modality.proofs.world_before.Statement.{statement}
 use Rattle.modality.proofs.world_before.Tie as tie
 
-cast-if1 : tie.Need-cast-if1
-cast-if1 c = search needs
-
 returns : tie.Need-returns
 returns c = λ t d. stands-out (λ (n : Node). n .world) d _ (c .if1 .taken)
-
-world-of-requires : tie.Need-world-of-requires
-world-of-requires c κs = search needs
 
 returns-2 : tie.Need-returns-2
 returns-2 c = λ t d. stands-in (λ (n : Node). n .world) d _ (c .before .if1 .left) (c .world-of .ensures)
 
 pub world-before-spec : {M : Type 1} → statement M
-world-before-spec = tie.close (tie.spec cast-if1 returns world-of-requires returns-2)
+world-before-spec = tie.close (tie.spec (search needs) returns (search needs) returns-2)

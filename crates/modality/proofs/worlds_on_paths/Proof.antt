@@ -1,3 +1,4 @@
+-- After j turns `seen` has the worlds on the path of each of the first j leaves, and the entries of all that is not listed are as they were.
 use borrow.Author.Needs.{needs}
 use Prim.Native.Nat.{ℕ, _≤_, _<_, _-_}
 use mathlib.Core.Path.{_≡_, refl, _∙_}
@@ -16,11 +17,11 @@ use Rattle.modality.proofs.worlds_on_paths.Statement.{statement}
 use Rattle.modality.proofs.worlds_on_paths.Tie as tie
 
 abbrev Inv-loop : tie.InvT-loop
-Inv-loop tree base forking on m seen₀ j₀ seen j = (j ≤ m) × ((t : List Node) (ls : List ℕ) → Stands t base tree → Listed ls m on → m ≤ mostIdentifiers → Each (λ l. l < mostIdentifiers) ls → length seen₀ ≡ mostIdentifiers → (length seen ≡ mostIdentifiers) × Each (Seen t (forkOf forking) seen) (take j ls))
+Inv-loop nodes base forking on m seen₀ j₀ seen j = (j ≤ m) × ((t : List Node) (ls : List ℕ) → Stands t base nodes → Listed ls m on → m ≤ mostIdentifiers → Each (λ l. l < mostIdentifiers) ls → length seen₀ ≡ mostIdentifiers → (length seen ≡ mostIdentifiers) × Each (Seen t (forkOf forking) seen) (take j ls))
     × ((ls : List ℕ) → Listed ls m on → m ≤ mostIdentifiers → (x : ℕ) → elem x ls ≡ false → getD seen x 0 ≡ getD seen₀ x 0)
 
 abbrev μ-loop : tie.MeasureT-loop
-μ-loop tree base forking on m seen₀ j₀ seen j = m - j
+μ-loop nodes base forking on m seen₀ j₀ seen j = m - j
 
 loop-holds : tie.Need-loop-holds Inv-loop μ-loop
 loop-holds c = (search needs, λ t ls d l small low long. (long, tt), λ ls l small x out. refl)

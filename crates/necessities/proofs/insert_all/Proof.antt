@@ -1,3 +1,4 @@
+-- After i turns row k has, beside its own, the first i of the listed numbers, and the other rows are as they were.
 use Prim.Native.Nat.{ℕ, _≤_, _<_, _-_}
 use mathlib.Core.List.{List}
 use lib.ListN.{take}
@@ -11,37 +12,16 @@ use Rattle.necessities.proofs.insert_all.Statement.{statement}
 use Rattle.necessities.proofs.insert_all.Tie as tie
 
 abbrev Inv-loop : tie.InvT-loop
-Inv-loop words₀ k list m i₀ words i = (i ≤ m) × ((l : List ℕ) → Listed l m list → m ≤ mostIdentifiers → Each (λ x. x < mostIdentifiers) l → Added k (take i l) words₀ words)
+Inv-loop leaves₀ k list m i₀ leaves i = (i ≤ m) × ((l : List ℕ) → Listed l m list → m ≤ mostIdentifiers → Each (λ x. x < mostIdentifiers) l → Added k (take i l) leaves₀ leaves)
 
 abbrev μ-loop : tie.MeasureT-loop
-μ-loop words₀ k list m i₀ words i = m - i
+μ-loop leaves₀ k list m i₀ leaves i = m - i
 
 returns : tie.Need-returns Inv-loop μ-loop
 returns c = λ l p h e. added-out l _ (c .if1 .taken)
 
 loop-holds : tie.Need-loop-holds Inv-loop μ-loop
 loop-holds c = (search needs, λ l p h e. added-none _ _)
-
-nth-requires : tie.Need-nth-requires Inv-loop μ-loop
-nth-requires c κs = search needs
-
-cast-x : tie.Need-cast-x Inv-loop μ-loop
-cast-x c = search needs
-
-mul-insert : tie.Need-mul-insert Inv-loop μ-loop
-mul-insert c = search needs
-
-add-insert : tie.Need-add-insert Inv-loop μ-loop
-add-insert c = search needs
-
-insert-requires : tie.Need-insert-requires Inv-loop μ-loop
-insert-requires c κs = search needs
-
-add-i : tie.Need-add-i Inv-loop μ-loop
-add-i c = search needs
-
-loop-less : tie.Need-loop-less Inv-loop μ-loop
-loop-less c = search needs
 
 loop-again : tie.Need-loop-again Inv-loop μ-loop
 loop-again c = (search needs, λ l p h e. insert-next _ _ _ _ (c .before .before .before .before .before .if1 .left) (c .before .before .before .loop-test .taken) p h e (c .before .before .nth .ensures .0 l _ p h) (c .insert .ensures) (c .before .before .before .before .loop .inv .1 l p h e))
@@ -57,12 +37,12 @@ insert-all-spec =
     μ-loop
     returns
     loop-holds
-    nth-requires
-    cast-x
-    mul-insert
-    add-insert
-    insert-requires
-    add-i
-    loop-less
+    (search needs)
+    (search needs)
+    (search needs)
+    (search needs)
+    (search needs)
+    (search needs)
+    (search needs)
     loop-again
     returns-2)

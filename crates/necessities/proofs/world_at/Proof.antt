@@ -3,11 +3,8 @@ use borrow.Author.Needs.{needs}
 use Rattle.necessities.proofs.world_at.Statement.{statement}
 use Rattle.necessities.proofs.world_at.Tie as tie
 
-number-requires : tie.Need-number-requires
-number-requires c κs = search needs
-
 returns : tie.Need-returns
-returns c = λ n a v h. c .number .ensures (h .leaves .row) (search needs) ∙ h .world
+returns c = λ n l h. c .short-at .ensures n l h (search needs) ∙ h .world
 
 pub world-at-spec : {M : Type 1} → statement M
-world-at-spec = tie.close (tie.spec number-requires returns)
+world-at-spec = tie.close (tie.spec (search needs) returns)

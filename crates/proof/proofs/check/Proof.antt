@@ -9,9 +9,6 @@ returns : tie.Need-returns
 unfolding asked
 returns c = λ s p r n h l. check-skipped _ s (c .if1 .taken) p h
 
-check-for-contradictions-requires : tie.Need-check-for-contradictions-requires
-check-for-contradictions-requires c κs = search needs
-
 returns-2 : tie.Need-returns-2
 unfolding asked
 returns-2 c = λ s p r n h l. let k = c .before .check-for-contradictions .ensures (s .formulas) (s .nodes) r n h (l (c .before .before .before .if1 .left)) in check-made _ s (c .before .before .before .if1 .left) (k .0) (λ _. or-yes s _ p (c .if2 .taken))
@@ -21,4 +18,4 @@ unfolding asked
 returns-3 c = λ s p r n h l. let k = c .before .check-for-contradictions .ensures (s .formulas) (s .nodes) r n h (l (c .before .before .before .if1 .left)) in check-made _ s (c .before .before .before .if1 .left) (k .0) (λ small. k .1 small ∙ or-no s _ p (c .if2 .left))
 
 pub check-spec : {M : Type 1} → statement M
-check-spec = tie.close (tie.spec returns check-for-contradictions-requires returns-2 returns-3)
+check-spec = tie.close (tie.spec returns (search needs) returns-2 returns-3)

@@ -7,36 +7,21 @@ use borrow.Author.Needs.{needs}
 use Rattle.prover.proofs.begin.Statement.{statement}
 use Rattle.prover.proofs.begin.Tie as tie
 
-read-records-requires : tie.Need-read-records-requires
-read-records-requires c κs = search needs
-
-begin-tree-requires : tie.Need-begin-tree-requires
-begin-tree-requires c κs = search needs
-
-begin-queue-requires : tie.Need-begin-queue-requires
-begin-queue-requires c κs = search needs
-
-classify-requires : tie.Need-classify-requires
-classify-requires c κs = search needs
-
-begin-requires : tie.Need-begin-requires
-begin-requires c κs = search needs
-
 returns : tie.Need-returns
-returns c = λ ea ra la va oa small some few f t w k g n.
+returns c = λ edges necessities leaves small some few f t w k g n.
     let rs = decode _ in
     let r = c .before .before .before .before .before .before .before .before .before .before .before .before .before .before .read-records .ensures small f in
     started rs some few _ (few-records _ small) g n r (λ fits. c .before .before .before .before .before .before .before .before .before .before .before .begin-tree .ensures rs r fits t) (λ l low same. c .before .before .before .before .before .before .before .before .begin-queue .ensures rs l low same w)
-    (λ ns q fits short same l low. c .before .before .before .classify .ensures _ rs ns [] q r fits short same l low refl k)
-    (λ fits new laid. c .begin .ensures (begun rs) ea ra la va oa _ _ fits new laid)
+    (λ ns q fits z l low. c .before .before .before .classify .ensures _ rs ns [] q r fits z l low refl k)
+    (λ fits new laid. c .begin .ensures (begun rs) _ _ _ _ _ fits new laid)
 
 pub begin-spec : {M : Type 1} → statement M
 begin-spec =
     tie.close
     (tie.spec
-    read-records-requires
-    begin-tree-requires
-    begin-queue-requires
-    classify-requires
-    begin-requires
+    (search needs)
+    (search needs)
+    (search needs)
+    (search needs)
+    (search needs)
     returns)

@@ -1,3 +1,4 @@
+-- At depth 0, and where there is no node, nothing is pushed; any other node is pushed behind what its three children push, one after the other.
 use borrow.Author.Needs.{needs}
 use native.Mathlib.Nat.{pos-of-ne-zero}
 use native.Mathlib.Omega.{arith}
@@ -39,13 +40,13 @@ abbrev calls : ℕ → push-tree-node-lts.Claims
 calls t = (is-none-reads.Asked, is-none-reads.Learnt, left-of-reads.Asked, left-of-reads.Learnt, push-tree-node-below t, push-tree-node.Post, middle-of-reads.Asked, middle-of-reads.Learnt, right-of-reads.Asked, right-of-reads.Learnt, push-reads.Asked, push-reads.Learnt)
 
 push-tree-node-returns : (t : ℕ) → push-tree-node-lts.Need-returns (calls t) (push-tree-node-at t) push-tree-node.Post
-push-tree-node-returns t c = λ ns q h e p. push-deep ns _ _ (c .if1 .taken) p
+push-tree-node-returns t c = λ ns q z p. push-deep ns _ _ (c .if1 .taken) p
 
 push-tree-node-is-none-requires : (t : ℕ) → push-tree-node-lts.Need-is-none-requires (calls t) (push-tree-node-at t) push-tree-node.Post
 push-tree-node-is-none-requires t c κs = search needs
 
 push-tree-node-returns-2 : (t : ℕ) → push-tree-node-lts.Need-returns-2 (calls t) (push-tree-node-at t) push-tree-node.Post
-push-tree-node-returns-2 t c = λ ns q h e p. push-nobody ns _ _ _ (c .before .is-none .ensures) (c .if2 .taken) p
+push-tree-node-returns-2 t c = λ ns q z p. push-nobody ns _ _ _ (c .before .is-none .ensures) (c .if2 .taken) p
 
 push-tree-node-left-of-requires : (t : ℕ) → push-tree-node-lts.Need-left-of-requires (calls t) (push-tree-node-at t) push-tree-node.Post
 push-tree-node-left-of-requires t c κs = search needs
@@ -80,7 +81,7 @@ push-tree-node-push-requires : (t : ℕ) → push-tree-node-lts.Need-push-requir
 push-tree-node-push-requires t c κs = search needs
 
 push-tree-node-returns-3 : (t : ℕ) → push-tree-node-lts.Need-returns-3 (calls t) (push-tree-node-at t) push-tree-node.Post
-push-tree-node-returns-3 t c = λ ns q h e p. push-kids ns q _ _ _ _ _ _ (c .before .before .before .before .before .before .before .before .before .before .before .before .before .if1 .left) (c .before .before .before .before .before .before .before .before .before .before .before .before .is-none .ensures) (c .before .before .before .before .before .before .before .before .before .before .before .if2 .left) (c .before .before .before .before .before .before .before .before .before .left-of .ensures ns h e) (c .before .before .before .before .before .before .middle-of .ensures ns h e) (c .before .before .before .right-of .ensures ns h e) (c .push .ensures _ (c .before .before .push-tree-node3 .ensures ns _ h e (c .before .before .before .before .before .push-tree-node2 .ensures ns _ h e (c .before .before .before .before .before .before .before .before .push-tree-node .ensures ns q h e p))))
+push-tree-node-returns-3 t c = λ ns q z p. push-kids ns q _ _ _ _ _ _ (c .before .before .before .before .before .before .before .before .before .before .before .before .before .if1 .left) (c .before .before .before .before .before .before .before .before .before .before .before .before .is-none .ensures) (c .before .before .before .before .before .before .before .before .before .before .before .if2 .left) (c .before .before .before .before .before .before .before .before .before .left-of .ensures ns z) (c .before .before .before .before .before .before .middle-of .ensures ns z) (c .before .before .before .right-of .ensures ns z) (c .push .ensures _ (c .before .before .push-tree-node3 .ensures ns _ z (c .before .before .before .before .before .push-tree-node2 .ensures ns _ z (c .before .before .before .before .before .before .before .before .push-tree-node .ensures ns q z p))))
 
 pub +push-tree-node-spec : {M : Type 1} → statement M
 +push-tree-node-spec = close μ-push-tree-node λ t. push-tree-node-lts.spec (calls t)

@@ -1,3 +1,4 @@
+-- No waiting node has a class before `class`, and none before i has `class` itself; at every turn the search from there on gives what `pop` gives.
 use borrow.Author.Needs.{needs}
 use Prim.Native.Nat.{ℕ, _≤_, _-_}
 use mathlib.Core.Path.{_≡_}
@@ -31,23 +32,8 @@ classes-holds c = (search needs, λ F rs ns q l g. class-start F rs ns q)
 loop-holds : tie.Need-loop-holds Inv-loop μ-loop Inv-classes μ-classes
 loop-holds c = (search needs, λ F rs ns q l g. search-begin F rs ns q l g _ (omega arith) (c .before .classes .inv .1 F rs ns q l g))
 
-nth-requires : tie.Need-nth-requires Inv-loop μ-loop Inv-classes μ-classes
-nth-requires c κs = search needs
-
-add-i : tie.Need-add-i Inv-loop μ-loop Inv-classes μ-classes
-add-i c = search needs
-
-loop-less : tie.Need-loop-less Inv-loop μ-loop Inv-classes μ-classes
-loop-less c = search needs
-
 loop-again : tie.Need-loop-again Inv-loop μ-loop Inv-classes μ-classes
 loop-again c = (search needs, λ F rs ns q l g. search-miss F rs ns q l g _ _ _ (c .before .before .loop-test .taken) (c .before .before .before .loop .inv .1 F rs ns q l g) (c .before .nth .ensures .0) (c .if2 .left))
-
-add-class : tie.Need-add-class Inv-loop μ-loop Inv-classes μ-classes
-add-class c = search needs
-
-classes-less : tie.Need-classes-less Inv-loop μ-loop Inv-classes μ-classes
-classes-less c = search needs
 
 classes-again : tie.Need-classes-again Inv-loop μ-loop Inv-classes μ-classes
 classes-again c = (search needs, λ F rs ns q l g. search-next F rs ns q l g _ _ (c .loop-test .left) (c .before .loop .inv .1 F rs ns q l g))
@@ -68,12 +54,12 @@ first-urgent-spec =
     μ-classes
     classes-holds
     loop-holds
-    nth-requires
-    add-i
-    loop-less
+    (search needs)
+    (search needs)
+    (search needs)
     loop-again
-    add-class
-    classes-less
+    (search needs)
+    (search needs)
     classes-again
     returns
     returns-2)

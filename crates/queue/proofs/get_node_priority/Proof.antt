@@ -6,15 +6,9 @@ use Rattle.definition.specs.Queue.{priorityOf, getNodePriority}
 use Rattle.queue.proofs.get_node_priority.Statement.{statement}
 use Rattle.queue.proofs.get_node_priority.Tie as tie
 
-formula-of-requires : tie.Need-formula-of-requires
-formula-of-requires c κs = search needs
-
-priority-of-requires : tie.Need-priority-of-requires
-priority-of-requires c κs = search needs
-
 returns : tie.Need-returns
 unfolding getNodePriority
-returns c = λ F rs ns p k h e. c .priority-of .ensures F rs p k ∙ ap (λ (f : ℕ). priorityOf F rs (formulaOf rs f)) (c .before .formula-of .ensures ns h e)
+returns c = λ F rs ns p k z. c .priority-of .ensures F rs p k ∙ ap (λ (f : ℕ). priorityOf F rs (formulaOf rs f)) (c .before .formula-of .ensures ns z)
 
 pub get-node-priority-spec : {M : Type 1} → statement M
-get-node-priority-spec = tie.close (tie.spec formula-of-requires priority-of-requires returns)
+get-node-priority-spec = tie.close (tie.spec (search needs) (search needs) returns)

@@ -1,6 +1,6 @@
 use mathlib.Core.Path.{refl}
 use Rattle.definition.specs.Rules.{nonExpansion}
-use Rattle.rules.proofs.Made.{expands-two}
+use Rattle.rules.proofs.RecordsMade.{expands-two}
 use borrow.Author.Needs.{needs}
 use Rattle.rules.proofs.non_bi_imply.Statement.{statement}
 use Rattle.rules.proofs.non_bi_imply.Tie as tie

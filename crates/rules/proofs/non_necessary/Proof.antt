@@ -1,21 +1,9 @@
 use mathlib.Core.Path.{refl}
 use Rattle.definition.specs.Rules.{nonExpansion}
-use Rattle.rules.proofs.Made.{expands-two}
+use Rattle.rules.proofs.RecordsMade.{expands-two}
 use borrow.Author.Needs.{needs}
 use Rattle.rules.proofs.non_necessary.Statement.{statement}
 use Rattle.rules.proofs.non_necessary.Tie as tie
-
-next-formula-requires : tie.Need-next-formula-requires
-next-formula-requires c κs = search needs
-
-non-requires : tie.Need-non-requires
-non-requires c κs = search needs
-
-next-formula-requires-2 : tie.Need-next-formula-requires-2
-next-formula-requires-2 c κs = search needs
-
-possible-requires : tie.Need-possible-requires
-possible-requires c κs = search needs
 
 returns : tie.Need-returns
 unfolding nonExpansion
@@ -24,4 +12,4 @@ returns c = λ rs q h. expands-two _ h _ (c .before .before .before .before .bef
 pub non-necessary-spec : {M : Type 1} → statement M
 non-necessary-spec =
     tie.close
-    (tie.spec next-formula-requires non-requires next-formula-requires-2 possible-requires returns)
+    (tie.spec (search needs) (search needs) (search needs) (search needs) returns)

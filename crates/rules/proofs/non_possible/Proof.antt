@@ -1,21 +1,9 @@
 use mathlib.Core.Path.{refl}
 use Rattle.definition.specs.Rules.{nonExpansion}
-use Rattle.rules.proofs.Made.{expands-two}
+use Rattle.rules.proofs.RecordsMade.{expands-two}
 use borrow.Author.Needs.{needs}
 use Rattle.rules.proofs.non_possible.Statement.{statement}
 use Rattle.rules.proofs.non_possible.Tie as tie
-
-next-formula-requires : tie.Need-next-formula-requires
-next-formula-requires c κs = search needs
-
-non-requires : tie.Need-non-requires
-non-requires c κs = search needs
-
-next-formula-requires-2 : tie.Need-next-formula-requires-2
-next-formula-requires-2 c κs = search needs
-
-necessary-requires : tie.Need-necessary-requires
-necessary-requires c κs = search needs
 
 returns : tie.Need-returns
 unfolding nonExpansion
@@ -25,8 +13,8 @@ pub non-possible-spec : {M : Type 1} → statement M
 non-possible-spec =
     tie.close
     (tie.spec
-    next-formula-requires
-    non-requires
-    next-formula-requires-2
-    necessary-requires
+    (search needs)
+    (search needs)
+    (search needs)
+    (search needs)
     returns)

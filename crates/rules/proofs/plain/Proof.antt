@@ -1,4 +1,4 @@
-use Rattle.rules.proofs.Made.{expands-none}
+use Rattle.rules.proofs.RecordsMade.{expands-none}
 use Rattle.rules.proofs.plain.Statement.{statement}
 use Rattle.rules.proofs.plain.Tie as tie
 

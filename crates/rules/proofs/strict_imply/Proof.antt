@@ -1,19 +1,13 @@
 use mathlib.Core.Path.{refl}
 use Rattle.definition.specs.Rules.{expansionBy}
-use Rattle.rules.proofs.Made.{expands-one}
+use Rattle.rules.proofs.RecordsMade.{expands-one}
 use borrow.Author.Needs.{needs}
 use Rattle.rules.proofs.strict_imply.Statement.{statement}
 use Rattle.rules.proofs.strict_imply.Tie as tie
-
-next-formula-requires : tie.Need-next-formula-requires
-next-formula-requires c κs = search needs
-
-imply-requires : tie.Need-imply-requires
-imply-requires c κs = search needs
 
 returns : tie.Need-returns
 unfolding expansionBy
 returns c = λ rs h. expands-one _ h _ (c .before .before .next-formula .ensures .0) (c .imply .ensures) refl (λ m. rw m refl)
 
 pub strict-imply-spec : {M : Type 1} → statement M
-strict-imply-spec = tie.close (tie.spec next-formula-requires imply-requires returns)
+strict-imply-spec = tie.close (tie.spec (search needs) (search needs) returns)

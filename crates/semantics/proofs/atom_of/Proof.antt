@@ -3,17 +3,11 @@ use borrow.Author.Needs.{needs}
 use Rattle.semantics.proofs.atom_of.Statement.{statement}
 use Rattle.semantics.proofs.atom_of.Tie as tie
 
-kind-at-requires : tie.Need-kind-at-requires
-kind-at-requires c κs = search needs
-
 returns : tie.Need-returns
 returns c = λ rs p h. no-atom rs _ _ (c .before .kind-at .ensures rs p h) (c .if1 .taken)
-
-left-at-requires : tie.Need-left-at-requires
-left-at-requires c κs = search needs
 
 returns-2 : tie.Need-returns-2
 returns-2 c = λ rs p h. one-atom rs _ _ (c .before .before .kind-at .ensures rs p h) _ (c .before .if1 .left) (c .left-at .ensures rs p h)
 
 pub atom-of-spec : {M : Type 1} → statement M
-atom-of-spec = tie.close (tie.spec kind-at-requires returns left-at-requires returns-2)
+atom-of-spec = tie.close (tie.spec (search needs) returns (search needs) returns-2)

@@ -4,20 +4,8 @@ use borrow.Author.Needs.{needs}
 use Rattle.semantics.proofs.atoms_of.Statement.{statement}
 use Rattle.semantics.proofs.atoms_of.Tie as tie
 
-kind-at-requires : tie.Need-kind-at-requires
-kind-at-requires c κs = search needs
-
-atom-of-requires : tie.Need-atom-of-requires
-atom-of-requires c κs = search needs
-
 returns : tie.Need-returns
 returns c = λ rs p h. no-pair rs _ _ (c .before .before .kind-at .ensures rs p h) _ (c .before .if1 .taken) (c .atom-of .ensures rs p h)
-
-left-at-requires : tie.Need-left-at-requires
-left-at-requires c κs = search needs
-
-kind-at-requires-2 : tie.Need-kind-at-requires-2
-kind-at-requires-2 c κs = search needs
 
 returns-2 : tie.Need-returns-2
 returns-2 c = λ rs p h.
@@ -25,24 +13,12 @@ returns-2 c = λ rs p h.
     (c .before .before .left-at .ensures rs p h) refl
     (pair-first rs _ _ (no-atom rs _ _ (c .before .kind-at2 .ensures rs p h) (c .if2 .taken)))
 
-right-at-requires : tie.Need-right-at-requires
-right-at-requires c κs = search needs
-
-kind-at-requires-3 : tie.Need-kind-at-requires-3
-kind-at-requires-3 c κs = search needs
-
 returns-3 : tie.Need-returns-3
 returns-3 c = λ rs p h.
     a-pair rs _ _ (c .before .before .before .before .before .before .before .kind-at .ensures rs p h) _ _ _
     (c .before .before .before .before .before .before .if1 .left) (c .before .before .before .before .before .left-at .ensures rs p h)
     (c .before .before .right-at .ensures rs p h)
     (pair-second rs _ _ (no-atom rs _ _ (c .before .kind-at3 .ensures rs p h) (c .if3 .taken)))
-
-left-at-requires-2 : tie.Need-left-at-requires-2
-left-at-requires-2 c κs = search needs
-
-left-at-requires-3 : tie.Need-left-at-requires-3
-left-at-requires-3 c κs = search needs
 
 returns-4 : tie.Need-returns-4
 returns-4 c = λ rs p h.
@@ -58,15 +34,15 @@ pub atoms-of-spec : {M : Type 1} → statement M
 atoms-of-spec =
     tie.close
     (tie.spec
-    kind-at-requires
-    atom-of-requires
+    (search needs)
+    (search needs)
     returns
-    left-at-requires
-    kind-at-requires-2
+    (search needs)
+    (search needs)
     returns-2
-    right-at-requires
-    kind-at-requires-3
+    (search needs)
+    (search needs)
     returns-3
-    left-at-requires-2
-    left-at-requires-3
+    (search needs)
+    (search needs)
     returns-4)

@@ -2,14 +2,8 @@ use borrow.Author.Needs.{needs}
 use Rattle.semantics.proofs.claim_of.Statement.{statement}
 use Rattle.semantics.proofs.claim_of.Tie as tie
 
-said-requires : tie.Need-said-requires
-said-requires c κs = search needs
-
-denied-requires : tie.Need-denied-requires
-denied-requires c κs = search needs
-
 returns : tie.Need-returns
 returns c = λ rs p h. record { says = c .before .said .ensures rs p h; denies = c .denied .ensures rs p h }
 
 pub claim-of-spec : {M : Type 1} → statement M
-claim-of-spec = tie.close (tie.spec said-requires denied-requires returns)
+claim-of-spec = tie.close (tie.spec (search needs) (search needs) returns)

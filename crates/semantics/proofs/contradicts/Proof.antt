@@ -4,28 +4,13 @@ use borrow.Author.Needs.{needs}
 use Rattle.semantics.proofs.contradicts.Statement.{statement}
 use Rattle.semantics.proofs.contradicts.Tie as tie
 
-denied-requires : tie.Need-denied-requires
-denied-requires c κs = search needs
-
-opposed-requires : tie.Need-opposed-requires
-opposed-requires c κs = search needs
-
 returns : tie.Need-returns
 returns c = λ rs p k r h. first-opposed rs p _ _ _ (k .says) (c .before .before .denied .ensures rs r h) _ (c .before .opposed .ensures) (c .if1 .taken)
-
-is-nothing-requires : tie.Need-is-nothing-requires
-is-nothing-requires c κs = search needs
 
 returns-2 : tie.Need-returns-2
 returns-2 c = λ rs p k r h.
     second-opposed rs p _ _ _ (k .says) (c .before .before .before .before .denied .ensures rs r h) _ _ _ _ (c .before .before .before .opposed .ensures) (c .before .before .if1 .left)
     refl refl (nothing-opposed _ (c .before .is-nothing .ensures) (c .if2 .taken) (k .denies))
-
-said-requires : tie.Need-said-requires
-said-requires c κs = search needs
-
-opposed-requires-2 : tie.Need-opposed-requires-2
-opposed-requires-2 c κs = search needs
 
 returns-3 : tie.Need-returns-3
 returns-3 c = λ rs p k r h.
@@ -33,4 +18,4 @@ returns-3 c = λ rs p k r h.
     (c .before .said .ensures rs r h) (k .denies) (c .opposed2 .ensures)
 
 pub contradicts-spec : {M : Type 1} → statement M
-contradicts-spec = tie.close (tie.spec denied-requires opposed-requires returns is-nothing-requires returns-2 said-requires opposed-requires-2 returns-3)
+contradicts-spec = tie.close (tie.spec (search needs) (search needs) returns (search needs) returns-2 (search needs) (search needs) returns-3)

@@ -4,33 +4,6 @@ use borrow.Author.Needs.{needs}
 use Rattle.semantics.proofs.opposed.Statement.{statement}
 use Rattle.semantics.proofs.opposed.Tie as tie
 
-enum-told : tie.Need-enum-told
-enum-told c = search needs
-
-enum-known-p : tie.Need-enum-known-p
-enum-known-p c = search needs
-
-enum-told-2 : tie.Need-enum-told-2
-enum-told-2 c = search needs
-
-enum-known-q : tie.Need-enum-known-q
-enum-known-q c = search needs
-
-enum-told-3 : tie.Need-enum-told-3
-enum-told-3 c = search needs
-
-enum-known-p-2 : tie.Need-enum-known-p-2
-enum-known-p-2 c = search needs
-
-enum-told-4 : tie.Need-enum-told-4
-enum-told-4 c = search needs
-
-enum-told-5 : tie.Need-enum-told-5
-enum-told-5 c = search needs
-
-enum-known-q-2 : tie.Need-enum-known-q-2
-enum-known-q-2 c = search needs
-
 returns : tie.Need-returns
 unfolding opposed
 returns c = rw (c .enum-told .given .1)
@@ -62,15 +35,15 @@ pub opposed-spec : {M : Type 1} → statement M
 opposed-spec =
     tie.close
     (tie.spec
-    enum-told
-    enum-known-p
-    enum-told-2
-    enum-known-q
-    enum-told-3
-    enum-known-p-2
-    enum-told-4
-    enum-told-5
-    enum-known-q-2
+    (search needs)
+    (search needs)
+    (search needs)
+    (search needs)
+    (search needs)
+    (search needs)
+    (search needs)
+    (search needs)
+    (search needs)
     returns
     returns-2
     returns-3

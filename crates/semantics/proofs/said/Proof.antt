@@ -4,36 +4,15 @@ use borrow.Author.Needs.{needs}
 use Rattle.semantics.proofs.said.Statement.{statement}
 use Rattle.semantics.proofs.said.Tie as tie
 
-kind-at-requires : tie.Need-kind-at-requires
-kind-at-requires c κs = search needs
-
-atoms-of-requires : tie.Need-atoms-of-requires
-atoms-of-requires c κs = search needs
-
 returns : tie.Need-returns
 returns c = λ rs p h. said-plain rs _ _ (c .before .before .kind-at .ensures rs p h) _ (c .before .if1 .taken)
     (c .atoms-of .ensures rs p h) ∙ sym (said-formula p h _)
-
-left-at-requires : tie.Need-left-at-requires
-left-at-requires c κs = search needs
-
-kind-at-requires-2 : tie.Need-kind-at-requires-2
-kind-at-requires-2 c κs = search needs
-
-atoms-of-requires-2 : tie.Need-atoms-of-requires-2
-atoms-of-requires-2 c κs = search needs
 
 returns-2 : tie.Need-returns-2
 returns-2 c = λ rs p h.
     said-once rs _ _ (c .before .before .before .before .before .kind-at .ensures rs p h) _ _ _ (c .before .before .before .before .if1 .left)
     (c .before .before .before .left-at .ensures rs p h) (c .before .before .kind-at2 .ensures rs p h) (c .before .if2 .taken) (c .atoms-of2 .ensures rs p h)
     ∙ sym (said-formula p h _)
-
-left-at-requires-2 : tie.Need-left-at-requires-2
-left-at-requires-2 c κs = search needs
-
-atom-of-requires : tie.Need-atom-of-requires
-atom-of-requires c κs = search needs
 
 returns-3 : tie.Need-returns-3
 returns-3 c = λ rs p h.
@@ -46,13 +25,13 @@ pub said-spec : {M : Type 1} → statement M
 said-spec =
     tie.close
     (tie.spec
-    kind-at-requires
-    atoms-of-requires
+    (search needs)
+    (search needs)
     returns
-    left-at-requires
-    kind-at-requires-2
-    atoms-of-requires-2
+    (search needs)
+    (search needs)
+    (search needs)
     returns-2
-    left-at-requires-2
-    atom-of-requires
+    (search needs)
+    (search needs)
     returns-3)

@@ -8,17 +8,8 @@ use Rattle.slices.proofs.put.Tie as tie
 returns : tie.Need-returns
 returns c = (puts-full (c .if1 .taken), λ h. (refl, refl))
 
-slice-write-slice : tie.Need-slice-write-slice
-slice-write-slice c = search needs
-
-add-result : tie.Need-add-result
-add-result c = search needs
-
-same-length : tie.Need-same-length
-same-length c = search needs
-
 returns-2 : tie.Need-returns-2
 returns-2 c = (puts-one _ _ _, λ h. absurd (omega (arith, c .if1 .left)))
 
 pub put-spec : {M : Type 1} → statement M
-put-spec = tie.close (tie.spec returns slice-write-slice add-result same-length returns-2)
+put-spec = tie.close (tie.spec returns (search needs) (search needs) (search needs) returns-2)

@@ -3,21 +3,6 @@ use borrow.Author.Needs.{needs}
 use Rattle.slices.proofs.put_two.Statement.{statement}
 use Rattle.slices.proofs.put_two.Tie as tie
 
-low-requires : tie.Need-low-requires
-low-requires c κs = search needs
-
-high-requires : tie.Need-high-requires
-high-requires c κs = search needs
-
-put-requires : tie.Need-put-requires
-put-requires c κs = search needs
-
-put-requires-2 : tie.Need-put-requires-2
-put-requires-2 c κs = search needs
-
-same-length : tie.Need-same-length
-same-length c = search needs
-
 returns : tie.Need-returns
 returns c =
     let second = c .before .before in
@@ -30,5 +15,4 @@ returns c =
     )
 
 pub put-two-spec : {M : Type 1} → statement M
-put-two-spec =
-    tie.close (tie.spec low-requires high-requires put-requires put-requires-2 same-length returns)
+put-two-spec = tie.close (tie.spec (search needs) (search needs) (search needs) (search needs) (search needs) returns)

@@ -1,3 +1,4 @@
+-- After each turn zeros stand from `at` up to i, and the rest of the slice is as it was.
 use borrow.Author.Needs.{needs}
 use Prim.Native.Nat.{ℕ, _≤_, _-_}
 use mathlib.Core.Path.{_≡_, refl}
@@ -22,35 +23,11 @@ returns c = (λ lent w h f r. absurd (omega (arith, c .if1 .taken, written-lengt
 loop-holds : tie.Need-loop-holds Inv-loop μ-loop
 loop-holds c = (search needs, search needs, λ h. refl, λ lent w h f r. zeros-start _ w lent f r h)
 
-slice-write-slice : tie.Need-slice-write-slice Inv-loop μ-loop
-slice-write-slice c = search needs
-
-add-i : tie.Need-add-i Inv-loop μ-loop
-add-i c = search needs
-
-loop-less : tie.Need-loop-less Inv-loop μ-loop
-loop-less c = search needs
-
 loop-again : tie.Need-loop-again Inv-loop μ-loop
 loop-again c = (search needs, search needs, λ h. absurd (omega (arith, c .before .loop .inv .1, c .loop-test .taken)), λ lent w h f r. zeros-next _ w lent f r _ (c .before .loop .inv .3 lent w h f r) (c .loop-test .taken))
-
-same-length : tie.Need-same-length Inv-loop μ-loop
-same-length c = search needs
 
 returns-2 : tie.Need-returns-2 Inv-loop μ-loop
 returns-2 c = (λ lent w h f r. zeros-end _ w lent f r _ (c .before .loop .inv .3 lent w h f r) (c .loop-test .left), λ z. elim z [ inl h ↦ absurd (omega (arith, c .before .before .if1 .left)) | inr h ↦ c .before .loop .inv .2 h ])
 
 pub put-zeros-spec : {M : Type 1} → statement M
-put-zeros-spec =
-    tie.close
-    (tie.spec
-    Inv-loop
-    μ-loop
-    returns
-    loop-holds
-    slice-write-slice
-    add-i
-    loop-less
-    loop-again
-    same-length
-    returns-2)
+put-zeros-spec = tie.close (tie.spec Inv-loop μ-loop returns loop-holds (search needs) (search needs) (search needs) loop-again (search needs) returns-2)

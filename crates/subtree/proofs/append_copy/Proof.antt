@@ -7,4 +7,4 @@ returns : tie.Need-returns
 returns c = λ ns q p f w. copy-placed (c .before .before .before .before .before .before .before .args .s) _ ns q _ p f w (c .before .before .before .before .before .attach-new-ids .ensures) (c .before .before .append-subtree-on-leaf .ensures) (c .push-subtree .ensures)
 
 pub append-copy-spec : {M : Type 1} → statement M
-append-copy-spec = tie.close (tie.spec (λ c κs. search needs) (λ c κs. search needs) (λ c κs. search needs) returns)
+append-copy-spec = tie.close (tie.spec (search needs) (search needs) (search needs) returns)

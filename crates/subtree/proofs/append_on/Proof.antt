@@ -4,20 +4,8 @@ use borrow.Author.Needs.{needs}
 use Rattle.subtree.proofs.append_on.Statement.{statement}
 use Rattle.subtree.proofs.append_on.Tie as tie
 
-push-subtree-requires : tie.Need-push-subtree-requires
-push-subtree-requires c κs = search needs
-
 returns : tie.Need-returns
 returns c = λ ns q ls p f w l g. let s = c .before .before .before .args .s in on-none s ns q ls l g (c .if1 .taken) p (λ h. c .before .push-subtree .ensures q (f h) (within-fits s h p w))
-
-nth-requires : tie.Need-nth-requires
-nth-requires c κs = search needs
-
-append-subtree-on-leaf-requires : tie.Need-append-subtree-on-leaf-requires
-append-subtree-on-leaf-requires c κs = search needs
-
-append-copies-requires : tie.Need-append-copies-requires
-append-copies-requires c κs = search needs
 
 returns-2 : tie.Need-returns-2
 returns-2 c = λ ns q ls p f w l g.
@@ -26,4 +14,4 @@ returns-2 c = λ ns q ls p f w l g.
     (c .append-copies .ensures _ _ ls (c .before .before .before .append-subtree-on-leaf .ensures ns p (λ _. w)) (λ h. c .before .before .before .before .before .before .before .push-subtree .ensures q (f h) (within-fits s h p w)) (within-hung s ns _ _ w) l g)
 
 pub append-on-spec : {M : Type 1} → statement M
-append-on-spec = tie.close (tie.spec push-subtree-requires returns nth-requires append-subtree-on-leaf-requires append-copies-requires returns-2)
+append-on-spec = tie.close (tie.spec (search needs) returns (search needs) (search needs) (search needs) returns-2)

@@ -7,4 +7,4 @@ returns : tie.Need-returns
 returns c = λ ns p w. attached (c .before .before .before .before .before .before .before .before .before .before .before .before .args .s) ns _ _ _ p w (c .before .before .before .before .before .before .before .copy-chain .ensures) (c .before .before .before .before .before .copy-chain2 .ensures) (c .before .before .before .copy-chain3 .ensures)
 
 pub attach-new-ids-spec : {M : Type 1} → statement M
-attach-new-ids-spec = tie.close (tie.spec (λ c κs. search needs) (λ c κs. search needs) (λ c κs. search needs) returns)
+attach-new-ids-spec = tie.close (tie.spec (search needs) (search needs) (search needs) returns)

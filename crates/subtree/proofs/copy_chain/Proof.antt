@@ -1,10 +1,11 @@
+-- After k turns the copies of the first k nodes of the chain stand behind the nodes.
 use Prim.Native.Nat.{_≤_, _-_}
 use mathlib.Core.List.{List, _++_, map}
 use lib.ListN.{length, take}
 use Rattle.definition.specs.Tree.{Node}
 use Rattle.definition.specs.Subtree.{copied}
 use Rattle.tree.specs.Lay.{Held}
-use Rattle.tree.specs.Chain.{chainOf, Below, DrawnFrom}
+use Rattle.tree.specs.Chain.{chainOf, ChainBelow, DrawnFrom}
 use Rattle.tree.proofs.Chains.{drawn-none}
 use Rattle.subtree.proofs.Chains.{copying-start, copying-next, copying-end}
 use borrow.Author.Needs.{needs}
@@ -12,37 +13,13 @@ use Rattle.subtree.proofs.copy_chain.Statement.{statement}
 use Rattle.subtree.proofs.copy_chain.Tie as tie
 
 abbrev Inv-loop : tie.InvT-loop
-Inv-loop tree₀ len c n copies₀ k₀ tree copies k = (k ≤ n) × DrawnFrom len copies × ((ns : List Node) → Held ns len tree₀ → Below c (length ns) → Held (ns ++ map (copied ns) (take k (chainOf c))) (copies .len) tree)
+Inv-loop nodes₀ len c n copies₀ k₀ nodes copies k = (k ≤ n) × DrawnFrom len copies × ((ns : List Node) → Held ns len nodes₀ → ChainBelow c (length ns) → Held (ns ++ map (copied ns) (take k (chainOf c))) (copies .len) nodes)
 
 abbrev μ-loop : tie.MeasureT-loop
-μ-loop tree₀ len c n copies₀ k₀ tree copies k = n - k
-
-cast-n : tie.Need-cast-n Inv-loop μ-loop
-cast-n c = search needs
+μ-loop nodes₀ len c n copies₀ k₀ nodes copies k = n - k
 
 loop-holds : tie.Need-loop-holds Inv-loop μ-loop
 loop-holds c = (search needs, drawn-none _, λ ns p b. copying-start ns (chainOf (c .before .args .c)) p)
-
-chain-at-requires : tie.Need-chain-at-requires Inv-loop μ-loop
-chain-at-requires c κs = search needs
-
-spawner-of-requires : tie.Need-spawner-of-requires Inv-loop μ-loop
-spawner-of-requires c κs = search needs
-
-formula-of-requires : tie.Need-formula-of-requires Inv-loop μ-loop
-formula-of-requires c κs = search needs
-
-world-of-requires : tie.Need-world-of-requires Inv-loop μ-loop
-world-of-requires c κs = search needs
-
-extend-requires : tie.Need-extend-requires Inv-loop μ-loop
-extend-requires c κs = search needs
-
-add-k : tie.Need-add-k Inv-loop μ-loop
-add-k c = search needs
-
-loop-less : tie.Need-loop-less Inv-loop μ-loop
-loop-less c = search needs
 
 loop-again : tie.Need-loop-again Inv-loop μ-loop
 loop-again c = (search needs, c .extend .ensures .0 _ (c .before .before .before .before .before .before .before .before .before .before .loop .inv .1), λ ns p b. copying-next ns (c .before .before .before .before .before .before .before .before .before .before .before .before .args .c) (c .before .before .before .before .before .before .before .before .before .before .loop .k) _ _ _ _ (c .before .before .before .before .before .before .before .before .before .loop-test .taken) b (c .before .before .before .before .before .before .before .before .before .before .loop .inv .2 ns p b) (c .before .before .before .before .before .before .before .before .chain-at .ensures .0) (c .before .before .before .before .before .before .spawner-of .ensures) (c .before .before .before .before .formula-of .ensures) (c .before .before .world-of .ensures) (c .extend .ensures .1))
@@ -51,4 +28,4 @@ returns : tie.Need-returns Inv-loop μ-loop
 returns c = (c .before .loop .inv .1, λ ns p b. copying-end ns (c .before .before .before .args .c) (c .before .loop .k) (c .loop-test .left) (c .before .loop .inv .2 ns p b))
 
 pub copy-chain-spec : {M : Type 1} → statement M
-copy-chain-spec = tie.close (tie.spec Inv-loop μ-loop cast-n loop-holds chain-at-requires spawner-of-requires formula-of-requires world-of-requires extend-requires add-k loop-less loop-again returns)
+copy-chain-spec = tie.close (tie.spec Inv-loop μ-loop (search needs) loop-holds (search needs) (search needs) (search needs) (search needs) (search needs) (search needs) (search needs) loop-again returns)

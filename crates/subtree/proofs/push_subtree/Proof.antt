@@ -3,26 +3,8 @@ use borrow.Author.Needs.{needs}
 use Rattle.subtree.proofs.push_subtree.Statement.{statement}
 use Rattle.subtree.proofs.push_subtree.Tie as tie
 
-turned-requires : tie.Need-turned-requires
-turned-requires c κs = search needs
-
-push-chain-requires : tie.Need-push-chain-requires
-push-chain-requires c κs = search needs
-
-turned-requires-2 : tie.Need-turned-requires-2
-turned-requires-2 c κs = search needs
-
-push-chain-requires-2 : tie.Need-push-chain-requires-2
-push-chain-requires-2 c κs = search needs
-
-turned-requires-3 : tie.Need-turned-requires-3
-turned-requires-3 c κs = search needs
-
-push-chain-requires-3 : tie.Need-push-chain-requires-3
-push-chain-requires-3 c κs = search needs
-
 returns : tie.Need-returns
 returns c = λ q p w. let s = c .before .before .before .before .before .before .before .before .before .before .before .before .args .s in pushed-all s q (pushed-turned (s .right) _ _ (c .before .turned3 .ensures) (pushed-turned (s .middle) _ _ (c .before .before .before .before .turned2 .ensures) (pushed-turned (s .left) _ q (c .before .before .before .before .before .before .before .turned .ensures) p (w .onLeft) (c .before .before .before .before .before .before .push-chain .ensures)) (w .onMiddle) (c .before .before .before .push-chain2 .ensures)) (w .onRight) (c .push-chain3 .ensures))
 
 pub push-subtree-spec : {M : Type 1} → statement M
-push-subtree-spec = tie.close (tie.spec turned-requires push-chain-requires turned-requires-2 push-chain-requires-2 turned-requires-3 push-chain-requires-3 returns)
+push-subtree-spec = tie.close (tie.spec (search needs) (search needs) (search needs) (search needs) (search needs) (search needs) returns)

@@ -114,7 +114,7 @@ module _ {M : Type 1} (𝓤 : URA M) (H : Heap 𝓤) (A : Atoms 𝓤) (W : Given
   exits r zs e l r-fits =
       qed W (‵ (flft κ q) ∷ (‵ (flft κ′ q′) ⊛ ‵ ftrue) ∷ ‵ (Tray κ (slice b o γ zs) s) ∷ ‵ (Rest κ′ t x) ∷ []) ∵
       suffices ! _ (ends-at 𝓤 H A append.ended stayed (append.clauses 𝓤 H A mem run) W (((κ, (κ′, tt)), (q, (q′, tt)), tt, a, vals), tt) (mach s r) (made (slice b o γ zs) r) ((tt, tt), (tt, (tt, tt))) ((tt, (tt, tt)), (tt, (tt, tt)))) $
-      says ! (record { same = refl; long = l }, λ ns k c w. record { puts = e ns k c w }) $ join ! $ frame ! $
+      says ! (record { same = refl; long = l }, λ ns k w. record { puts = e ns k w }) $ join ! $ frame ! $
       nothing ! $ owned ! usize (Is usize) (uint-makes 𝓤 H A W w64) r _ (refl, r-fits) $ fjoin ! $ move ! (1 ∷ 0 ∷ []) $ fjoin ! $
       use1 W (‵ (T.the-row α .own (made (slice b o γ zs) r) (mach s r ∷ []))) (makes 𝓤 H A W (MutSlice (named 0) κ u8 ∷ usize ∷ []) (given-on r zs) (s ∷ [], (vint w64 r ∷ [], tt))) $
       nothing ! $ owned ! usize (Is usize) (uint-makes 𝓤 H A W w64) n _ (refl, n-fits) $ fjoin ! $ nothing ! $ fjoin ! $

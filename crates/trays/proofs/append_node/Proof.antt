@@ -165,7 +165,7 @@ module _ {M : Type 1} (𝓤 : URA M) (H : Heap 𝓤) (A : Atoms 𝓤) (W : Given
         -- [what the tray's borrow owns; what at owns; the tokens; what tree and x own; true; _8; …; _7; …; _6; …; _5; …; _4; …; _3; …; _2; …; _1; …; _0; …]
         returns ! (look ! 21 refl) $ forget ! 5 refl $ forget ! 7 refl $ forget ! 9 refl $ forget ! 11 refl $ forget ! 13 refl $ forget ! 15 refl $ forget ! 17 refl $ forget ! 19 refl $ forget ! 21 refl $
         move ! (21 ∷ 22 ∷ []) $ free1 ! $ move ! (19 ∷ 20 ∷ []) $ free1 ! $ move ! (17 ∷ 18 ∷ []) $ free1 ! $ move ! (15 ∷ 16 ∷ []) $ free1 ! $ move ! (13 ∷ 14 ∷ []) $ free1 ! $ move ! (11 ∷ 12 ∷ []) $ free1 ! $ move ! (9 ∷ 10 ∷ []) $ free1 ! $ move ! (7 ∷ 8 ∷ []) $ free1 ! $ move ! (5 ∷ 6 ∷ []) $ free1 ! $ free0 ! $
-        keep ! (2 ∷ 0 ∷ 3 ∷ []) $ by ! (exits (r₁ .at) (r₁ .tray .now) (λ ns k c w. e₁ .1 ns k c w .puts) (e₁ .0 .long) m-fits)))))))))))))))))))
+        keep ! (2 ∷ 0 ∷ 3 ∷ []) $ by ! (exits (r₁ .at) (r₁ .tray .now) (λ ns k w. e₁ .1 ns k w .puts) (e₁ .0 .long) m-fits)))))))))))))))))))
 
 module _ {M : Type 1} (𝓤 : URA M) (H : Heap 𝓤) (A : Atoms 𝓤) (W : Given 𝓤 H A) (mem : Memory → SProp 𝓤) (run : Routine → Fun 𝓤) where
   append-node-walks : (C : Calls 𝓤 H) (Λ : Loops 𝓤 H) → FmC 𝓤 H (W .laws) C → Triple 𝓤 (C #trays·writer) (Make 𝓤 H A mem run) → Triple 𝓤 (C #trays·append) (Append 𝓤 H A mem run)

@@ -9,14 +9,8 @@ use borrow.Author.Needs.{needs}
 use Rattle.trays.proofs.clear.Statement.{statement}
 use Rattle.trays.proofs.clear.Tie as tie
 
-put-zeros-requires : tie.Need-put-zeros-requires
-put-zeros-requires c κs = search needs
-
-same-length : tie.Need-same-length
-same-length c = search needs
-
 returns : tie.Need-returns
 returns c = (λ h. c .before .before .put-zeros .ensures .0 _ [] (written-none _) (omega arith) h ∙ ap (λ (l : List ℕ). over l (c .before .before .before .before .before .args .tray .now)) (padded-none _), λ h. c .before .before .put-zeros .ensures .1 (inl h))
 
 pub clear-spec : {M : Type 1} → statement M
-clear-spec = tie.close (tie.spec put-zeros-requires same-length returns)
+clear-spec = tie.close (tie.spec (search needs) (search needs) returns)

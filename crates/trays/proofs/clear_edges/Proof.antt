@@ -1,3 +1,4 @@
+-- After each turn the bytes so far are zero, and the rest of the tray is as it was.
 use borrow.Author.Needs.{needs}
 use Prim.Native.Nat.{ℕ, _≤_, _-_}
 use mathlib.Core.Path.{_≡_, refl, _∙_, ap}
@@ -22,39 +23,11 @@ returns c = (λ r. absurd (omega (arith, c .if1 .taken)), λ z. refl)
 loop-holds : tie.Need-loop-holds Inv-loop μ-loop
 loop-holds c = (search needs, λ r. zeros-start edgeTrayLength [] _ (omega arith) r (written-none _))
 
-mul-tray : tie.Need-mul-tray Inv-loop μ-loop
-mul-tray c = search needs
-
-slice-write-tray : tie.Need-slice-write-tray Inv-loop μ-loop
-slice-write-tray c = search needs
-
-add-world : tie.Need-add-world Inv-loop μ-loop
-add-world c = search needs
-
-loop-less : tie.Need-loop-less Inv-loop μ-loop
-loop-less c = search needs
-
 loop-again : tie.Need-loop-again Inv-loop μ-loop
 loop-again c = (search needs, λ r. zeros-next edgeTrayLength [] _ (omega arith) r _ (c .before .loop .inv .1 r) (c .loop-test .taken))
-
-same-length : tie.Need-same-length Inv-loop μ-loop
-same-length c = search needs
 
 returns-2 : tie.Need-returns-2 Inv-loop μ-loop
 returns-2 c = (λ r. zeros-end edgeTrayLength [] _ (omega arith) r _ (c .before .loop .inv .1 r) (c .loop-test .left) ∙ ap (λ (l : List ℕ). over l (c .before .before .before .args .tray .now)) (padded-none edgeTrayLength), λ z. absurd (omega (arith, c .before .before .if1 .left)))
 
 pub clear-edges-spec : {M : Type 1} → statement M
-clear-edges-spec =
-    tie.close
-    (tie.spec
-    Inv-loop
-    μ-loop
-    returns
-    loop-holds
-    mul-tray
-    slice-write-tray
-    add-world
-    loop-less
-    loop-again
-    same-length
-    returns-2)
+clear-edges-spec = tie.close (tie.spec Inv-loop μ-loop returns loop-holds (search needs) (search needs) (search needs) (search needs) loop-again (search needs) returns-2)

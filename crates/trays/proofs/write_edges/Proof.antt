@@ -1,3 +1,4 @@
+-- After u turns the numbers of the first u rows are written, and the rest of the tray is as it was.
 use Prim.Native.Nat.{_≤_, _-_}
 use mathlib.Core.Path.{_≡_, refl}
 use mathlib.Core.Bool.{Bool}
@@ -36,20 +37,4 @@ returns-3 : tie.Need-returns-3 Inv-loop μ-loop
 returns-3 c = (λ g d s h r. edges-end g d s _ r _ (c .before .loop .inv .1 g d s h r) (c .loop-test .left), not-kept (c .before .before .before .if1 .left) (c .before .before .if2 .left))
 
 pub write-edges-spec : {M : Type 1} → statement M
-write-edges-spec =
-    tie.close
-    (tie.spec
-    Inv-loop
-    μ-loop
-    returns
-    returns-2
-    loop-holds
-    (λ c. search needs)
-    (λ c κs. search needs)
-    (λ c. search needs)
-    (λ c. search needs)
-    (λ c. search needs)
-    (λ c. search needs)
-    loop-again
-    (λ c. search needs)
-    returns-3)
+write-edges-spec = tie.close (tie.spec Inv-loop μ-loop returns returns-2 loop-holds (search needs) (search needs) (search needs) (search needs) (search needs) (search needs) loop-again (search needs) returns-3)

@@ -1,3 +1,4 @@
+-- After i turns the records of the first i formulas are written, and the rest of the tray is as it was; then zeros follow.
 use borrow.Author.Needs.{needs}
 use Prim.Native.Nat.{_<_, _-_}
 use mathlib.Core.Path.{_≡_, refl}
@@ -10,8 +11,8 @@ use Rattle.definition.specs.Records.{Rec, recAt}
 use Rattle.definition.specs.Trays.{recordBytes}
 use Rattle.formula.specs.Recorded.{Recorded, missing}
 use Rattle.formula.proofs.Recorded.{recorded-count}
-use Rattle.definition.proofs.Lists.{each-get}
-use Rattle.definition.proofs.TraysKept.{length-parts, record-length}
+use Rattle.definition.proofs.Basics.Lists.{each-get}
+use Rattle.definition.proofs.Call.Trays.{length-parts, record-length}
 use Rattle.trays.proofs.Bytes.{not-kept}
 use Rattle.slices.proofs.Parts.{Parts, parts-start, parts-next, parts-end}
 use Rattle.trays.proofs.write_formulas.Statement.{statement}
@@ -40,19 +41,4 @@ returns-3 : tie.Need-returns-3 Inv-loop μ-loop
 returns-3 c = (λ rs p l h r. let e = recorded-count p l in c .before .before .put-zeros .ensures .0 (c .before .before .before .before .before .before .before .before .before .args .tray .now) (concatMap recordBytes rs) (parts-end recordBytes recordLength record-length rs _ (c .before .before .before .before .before .loop .i) (c .before .before .before .before .before .loop .inv .1 rs p h) (omega (arith, c .before .before .before .before .loop-test .left))) (omega (arith, length-parts recordLength recordBytes record-length rs)) r, not-kept (c .before .before .before .before .before .before .before .if1 .left) (c .before .before .before .before .before .before .if2 .left))
 
 pub write-formulas-spec : {M : Type 1} → statement M
-write-formulas-spec =
-    tie.close
-    (tie.spec
-    Inv-loop
-    μ-loop
-    returns
-    returns-2
-    loop-holds
-    (λ c. search needs)
-    (λ c κs. search needs)
-    (λ c. search needs)
-    (λ c. search needs)
-    loop-again
-    (λ c κs. search needs)
-    (λ c. search needs)
-    returns-3)
+write-formulas-spec = tie.close (tie.spec Inv-loop μ-loop returns returns-2 loop-holds (search needs) (search needs) (search needs) (search needs) loop-again (search needs) (search needs) returns-3)

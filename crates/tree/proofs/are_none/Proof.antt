@@ -3,15 +3,6 @@ use borrow.Author.Needs.{needs}
 use Rattle.tree.proofs.are_none.Statement.{statement}
 use Rattle.tree.proofs.are_none.Tie as tie
 
-is-none-requires : tie.Need-is-none-requires
-is-none-requires c κs = search needs
-
-is-none-requires-2 : tie.Need-is-none-requires-2
-is-none-requires-2 c κs = search needs
-
-is-none-requires-3 : tie.Need-is-none-requires-3
-is-none-requires-3 c κs = search needs
-
 returns : tie.Need-returns
 returns c = none-yes _ _ _ (c .before .before .before .before .is-none .ensures) (c .before .before .before .if1 .taken) (c .before .before .is-none2 .ensures) (c .before .if2 .taken) (c .is-none3 .ensures)
 
@@ -22,6 +13,4 @@ returns-3 : tie.Need-returns-3
 returns-3 c = none-left _ _ _ (c .before .is-none .ensures) (c .if1 .left)
 
 pub are-none-spec : {M : Type 1} → statement M
-are-none-spec =
-    tie.close
-    (tie.spec is-none-requires is-none-requires-2 is-none-requires-3 returns returns-2 returns-3)
+are-none-spec = tie.close (tie.spec (search needs) (search needs) (search needs) returns returns-2 returns-3)

@@ -22,19 +22,4 @@ returns-4 c =
     (λ b h. chain-down (a .c) (a .k) (c .if3 .left) h, inside (a .c) (a .k) (c .before .before .if1 .left) (c .before .if2 .left))
 
 pub chain-at-spec : {M : Type 1} → statement M
-chain-at-spec =
-    tie.close
-    (tie.spec
-    (λ c. search needs)
-    (λ c. search needs)
-    returns
-    (λ c. search needs)
-    returns-2
-    (λ c. search needs)
-    (λ c. search needs)
-    returns-3
-    (λ c. search needs)
-    (λ c. search needs)
-    (λ c. search needs)
-    (λ c. search needs)
-    returns-4)
+chain-at-spec = tie.close (tie.spec (search needs) (search needs) returns (search needs) returns-2 (search needs) (search needs) returns-3 (search needs) (search needs) (search needs) (search needs) returns-4)

@@ -7,4 +7,4 @@ returns : tie.Need-returns
 returns c = (λ lo f. drawn-more _ (c .before .before .before .new-node .ensures .0) f (c .extended .ensures), c .before .before .before .new-node .ensures .1)
 
 pub extend-spec : {M : Type 1} → statement M
-extend-spec = tie.close (tie.spec (λ c κs. search needs) (λ c κs. search needs) returns)
+extend-spec = tie.close (tie.spec (search needs) (search needs) returns)

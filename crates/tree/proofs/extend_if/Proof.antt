@@ -10,4 +10,4 @@ returns-2 : tie.Need-returns-2
 returns-2 c = (λ lo f. f, λ ns p. make-none ns _ (c .if1 .left) p)
 
 pub extend-if-spec : {M : Type 1} → statement M
-extend-if-spec = tie.close (tie.spec (λ c κs. search needs) returns returns-2)
+extend-if-spec = tie.close (tie.spec (search needs) returns returns-2)

@@ -15,4 +15,4 @@ returns-3 : tie.Need-returns-3
 returns-3 c = λ lo h s. spans-next s _ refl refl refl (c .before .before .before .before .if1 .left)
 
 pub extended-spec : {M : Type 1} → statement M
-extended-spec = tie.close (tie.spec returns returns-2 (λ c. search needs) returns-3)
+extended-spec = tie.close (tie.spec returns returns-2 (search needs) returns-3)

@@ -1,3 +1,4 @@
+-- At every turn, linking what is left of the chain below the last node that was linked gives the whole chain linked.
 use borrow.Author.Needs.{needs}
 use Prim.Native.Nat.{_≤_, _-_}
 use mathlib.Core.Path.{_≡_}
@@ -6,13 +7,13 @@ use lib.ListN.{length, drop}
 use Rattle.definition.specs.Limits.{mostIdentifiers}
 use Rattle.definition.specs.Tree.{Node, Place, linkChain}
 use Rattle.tree.specs.Lay.{placeCode, Held}
-use Rattle.tree.specs.Chain.{chainOf, Below}
+use Rattle.tree.specs.Chain.{chainOf, ChainBelow}
 use Rattle.tree.proofs.Chains.{Linking, linking-start, linking-next, linking-end, below-fits, chain-full}
 use Rattle.tree.proofs.link_chain.Statement.{statement}
 use Rattle.tree.proofs.link_chain.Tie as tie
 
 abbrev Inv-loop : tie.InvT-loop
-Inv-loop tree₀ len place c n above₀ at₀ k₀ tree above at k = (k ≤ n) × ((ns : List Node) (p : Place) → placeCode p ≡ place → Held ns len tree₀ → (length ns ≤ mostIdentifiers → Below c (length ns)) → Linking (linkChain ns (above₀ .0) p (chainOf c)) len tree (above .0) at (drop k (chainOf c)))
+Inv-loop tree₀ len place c n above₀ at₀ k₀ tree above at k = (k ≤ n) × ((ns : List Node) (p : Place) → placeCode p ≡ place → Held ns len tree₀ → (length ns ≤ mostIdentifiers → ChainBelow c (length ns)) → Linking (linkChain ns (above₀ .0) p (chainOf c)) len tree (above .0) at (drop k (chainOf c)))
 
 abbrev μ-loop : tie.MeasureT-loop
 μ-loop tree₀ len place c n above₀ at₀ k₀ tree above at k = n - k
@@ -20,23 +21,8 @@ abbrev μ-loop : tie.MeasureT-loop
 returns : tie.Need-returns Inv-loop μ-loop
 returns c = λ ns p z has b. let a = c .before .args in chain-full (a .y .0) p (chainOf (a .c)) (c .if1 .taken) has
 
-cast-n : tie.Need-cast-n Inv-loop μ-loop
-cast-n c = search needs
-
 loop-holds : tie.Need-loop-holds Inv-loop μ-loop
 loop-holds c = (search needs, λ ns p z has b. linking-start _ p _ z has)
-
-chain-at-requires : tie.Need-chain-at-requires Inv-loop μ-loop
-chain-at-requires c κs = search needs
-
-link-requires : tie.Need-link-requires Inv-loop μ-loop
-link-requires c κs = search needs
-
-add-k : tie.Need-add-k Inv-loop μ-loop
-add-k c = search needs
-
-loop-less : tie.Need-loop-less Inv-loop μ-loop
-loop-less c = search needs
 
 loop-again : tie.Need-loop-again Inv-loop μ-loop
 loop-again c = (search needs, λ ns p z has b. let a = c .before .before .before .before .before .before .before .args in linking-next (a .c) _ (c .before .before .before .before .loop .inv .1 ns p z has b) _ (c .before .before .before .loop-test .taken) (c .before .before .chain-at .ensures .0 (below-fits (a .c) (c .before .before .before .before .before .before .if1 .left) has b) (c .before .before .before .loop-test .taken)) (c .link .ensures))
@@ -45,17 +31,4 @@ returns-2 : tie.Need-returns-2 Inv-loop μ-loop
 returns-2 c = λ ns p z has b. linking-end (c .before .before .before .before .args .c) _ (c .before .loop .inv .1 ns p z has b) (c .loop-test .left)
 
 pub link-chain-spec : {M : Type 1} → statement M
-link-chain-spec =
-    tie.close
-    (tie.spec
-    Inv-loop
-    μ-loop
-    returns
-    cast-n
-    loop-holds
-    chain-at-requires
-    link-requires
-    add-k
-    loop-less
-    loop-again
-    returns-2)
+link-chain-spec = tie.close (tie.spec Inv-loop μ-loop returns (search needs) loop-holds (search needs) (search needs) (search needs) (search needs) loop-again returns-2)

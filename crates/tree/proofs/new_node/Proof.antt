@@ -13,4 +13,4 @@ returns c =
     )
 
 pub new-node-spec : {M : Type 1} → statement M
-new-node-spec = tie.close (tie.spec (λ c κs. search needs) (λ c κs. search needs) (λ c κs. search needs) (λ c κs. search needs) returns)
+new-node-spec = tie.close (tie.spec (search needs) (search needs) (search needs) (search needs) returns)

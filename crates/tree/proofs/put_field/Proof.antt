@@ -3,9 +3,6 @@ use borrow.Author.Needs.{needs}
 use Rattle.tree.proofs.put_field.Statement.{statement}
 use Rattle.tree.proofs.put_field.Tie as tie
 
-cast-i : tie.Need-cast-i
-cast-i c = search needs
-
 returns : tie.Need-returns
 returns c = λ ns f r p. put-full _ f p (c .if1 .taken)
 
@@ -15,31 +12,8 @@ returns-2 c = λ ns f r p. put-out _ f p (c .before .if1 .left) (c .if2 .taken)
 returns-3 : tie.Need-returns-3
 returns-3 c = λ ns f r p. put-none _ f p _ _ r (c .if3 .taken)
 
-mul-tree : tie.Need-mul-tree
-mul-tree c = search needs
-
-add-tree : tie.Need-add-tree
-add-tree c = search needs
-
-mul-tree-2 : tie.Need-mul-tree-2
-mul-tree-2 c = search needs
-
-element-write-tree : tie.Need-element-write-tree
-element-write-tree c = search needs
-
 returns-4 : tie.Need-returns-4
 returns-4 c = λ ns f r p. put-store _ f p _ _ r (c .before .before .if1 .left) (c .before .if2 .left) (c .if3 .left)
 
 pub put-field-spec : {M : Type 1} → statement M
-put-field-spec =
-    tie.close
-    (tie.spec
-    cast-i
-    returns
-    returns-2
-    returns-3
-    mul-tree
-    add-tree
-    mul-tree-2
-    element-write-tree
-    returns-4)
+put-field-spec = tie.close (tie.spec (search needs) returns returns-2 returns-3 (search needs) (search needs) (search needs) (search needs) returns-4)

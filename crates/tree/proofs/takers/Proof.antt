@@ -1,35 +1,17 @@
 use mathlib.Core.List.{[]}
-use native.Mathlib.Omega.{arith}
 use Rattle.tree.proofs.Paths.{takers-none, takers-shut, takers-walked}
 use borrow.Author.Needs.{needs}
 use Rattle.tree.proofs.takers.Statement.{statement}
 use Rattle.tree.proofs.takers.Tie as tie
 
-place-of-requires : tie.Need-place-of-requires
-place-of-requires c κs = search needs
-
 returns : tie.Need-returns
-returns c = λ ns r e h q p. takers-none ns r _ (c .before .place-of .ensures ns (omega arith) q) (c .if1 .taken) p
-
-path-is-contradictory-requires : tie.Need-path-is-contradictory-requires
-path-is-contradictory-requires c κs = search needs
+returns c = λ ns r e z p. takers-none ns r _ (c .before .place-of .ensures ns z) (c .if1 .taken) p
 
 returns-2 : tie.Need-returns-2
-returns-2 c = λ ns r e h q p. takers-shut ns r _ (c .before .before .before .place-of .ensures ns (omega arith) q) (c .before .before .if1 .left) (c .before .path-is-contradictory .ensures ns e h q) (c .if2 .taken) p
-
-takers-below-requires : tie.Need-takers-below-requires
-takers-below-requires c κs = search needs
+returns-2 c = λ ns r e z p. takers-shut ns r _ (c .before .before .before .place-of .ensures ns z) (c .before .before .if1 .left) (c .before .path-is-contradictory .ensures ns e z) (c .if2 .taken) p
 
 returns-3 : tie.Need-returns-3
-returns-3 c = λ ns r e h q p. takers-walked ns r _ (c .before .before .before .before .before .place-of .ensures ns (omega arith) q) (c .before .before .before .before .if1 .left) (c .before .before .before .path-is-contradictory .ensures ns e h q) (c .before .before .if2 .left) _ e (c .takers-below .ensures ns [] (omega arith) q p)
+returns-3 c = λ ns r e z p. takers-walked ns r _ (c .before .before .before .before .before .place-of .ensures ns z) (c .before .before .before .before .if1 .left) (c .before .before .before .path-is-contradictory .ensures ns e z) (c .before .before .if2 .left) _ e (c .takers-below .ensures ns [] z p)
 
 pub takers-spec : {M : Type 1} → statement M
-takers-spec =
-    tie.close
-    (tie.spec
-    place-of-requires
-    returns
-    path-is-contradictory-requires
-    returns-2
-    takers-below-requires
-    returns-3)
+takers-spec = tie.close (tie.spec (search needs) returns (search needs) returns-2 (search needs) returns-3)

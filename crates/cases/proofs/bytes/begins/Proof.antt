@@ -1,3 +1,4 @@
+-- The bytes of t before i are those of s; at every turn those from i on decide.
 use Prim.Native.Nat.{_-_}
 use lib.Dec.{eqb}
 use lib.ListN.{length, getD}
@@ -16,21 +17,9 @@ abbrev μ-loop : tie.MeasureT-loop
 loop-holds : tie.Need-loop-holds Inv-loop μ-loop
 loop-holds c = between-start _ _ _
 
-byte-requires : tie.Need-byte-requires Inv-loop μ-loop
-byte-requires c κs = search needs
-
-shared-slice-read-if1 : tie.Need-shared-slice-read-if1 Inv-loop μ-loop
-shared-slice-read-if1 c = search needs
-
 returns : tie.Need-returns Inv-loop μ-loop
 unfolding beginsWith
 returns c = between-miss (c .before .before .before .before .loop .inv) (c .before .before .before .loop-test .taken) (read-unequal (c .before .before .byte .ensures) (c .if1 .taken))
-
-add-i : tie.Need-add-i Inv-loop μ-loop
-add-i c = search needs
-
-loop-less : tie.Need-loop-less Inv-loop μ-loop
-loop-less c = search needs
 
 loop-again : tie.Need-loop-again Inv-loop μ-loop
 loop-again c = between-next (c .before .before .before .before .loop .inv) (c .before .before .before .loop-test .taken) (read-equal (c .before .before .byte .ensures) (c .if1 .left))
@@ -46,10 +35,10 @@ begins-spec =
     Inv-loop
     μ-loop
     loop-holds
-    byte-requires
-    shared-slice-read-if1
+    (search needs)
+    (search needs)
     returns
-    add-i
-    loop-less
+    (search needs)
+    (search needs)
     loop-again
     returns-2)

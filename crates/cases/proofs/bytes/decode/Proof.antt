@@ -1,3 +1,4 @@
+-- After n turns the first n bytes are decoded into `out`, i is 2 * n behind `from`, and the rest of `out` is as it was.
 use mathlib.Core.Logic.{inl, inr}
 use Prim.Native.Nat.{_-_}
 use borrow.Author.Needs.{needs}
@@ -20,47 +21,11 @@ same-length c = decoding-length (c .before .before .loop .inv)
 returns : tie.Need-returns Inv-loop μ-loop
 returns c = decoding-end (c .before .before .loop .inv) (inr (inl (c .if1 .taken)))
 
-byte-requires : tie.Need-byte-requires Inv-loop μ-loop
-byte-requires c κs = search needs
-
-hex-digit-requires : tie.Need-hex-digit-requires Inv-loop μ-loop
-hex-digit-requires c κs = search needs
-
-add-byte : tie.Need-add-byte Inv-loop μ-loop
-add-byte c = search needs
-
-byte-requires-2 : tie.Need-byte-requires-2 Inv-loop μ-loop
-byte-requires-2 c κs = search needs
-
-hex-digit-requires-2 : tie.Need-hex-digit-requires-2 Inv-loop μ-loop
-hex-digit-requires-2 c κs = search needs
-
 same-length-2 : tie.Need-same-length-2 Inv-loop μ-loop
 same-length-2 c = decoding-length (c .before .before .before .before .before .before .before .loop .inv)
 
 returns-2 : tie.Need-returns-2 Inv-loop μ-loop
 returns-2 c = decoding-end (c .before .before .before .before .before .before .before .loop .inv) (inr (inr (c .if2 .taken)))
-
-mul-out : tie.Need-mul-out Inv-loop μ-loop
-mul-out c = search needs
-
-add-out : tie.Need-add-out Inv-loop μ-loop
-add-out c = search needs
-
-cast-out : tie.Need-cast-out Inv-loop μ-loop
-cast-out c = search needs
-
-slice-write-out : tie.Need-slice-write-out Inv-loop μ-loop
-slice-write-out c = search needs
-
-add-n : tie.Need-add-n Inv-loop μ-loop
-add-n c = search needs
-
-add-i : tie.Need-add-i Inv-loop μ-loop
-add-i c = search needs
-
-loop-less : tie.Need-loop-less Inv-loop μ-loop
-loop-less c = search needs
 
 loop-again : tie.Need-loop-again Inv-loop μ-loop
 loop-again c = decoding-next (c .before .before .before .before .before .before .before .loop .inv) (c .before .before .before .before .before .before .loop-test .taken) (c .before .before .before .before .before .if1 .left) (c .if2 .left) _ (hex-byte _ _ (c .before .before .before .before .byte .ensures) (c .before .before .before .hex-digit .ensures) (c .before .before .byte2 .ensures) (c .before .hex-digit2 .ensures))
@@ -80,20 +45,20 @@ decode-spec =
     loop-holds
     same-length
     returns
-    byte-requires
-    hex-digit-requires
-    add-byte
-    byte-requires-2
-    hex-digit-requires-2
+    (search needs)
+    (search needs)
+    (search needs)
+    (search needs)
+    (search needs)
     same-length-2
     returns-2
-    mul-out
-    add-out
-    cast-out
-    slice-write-out
-    add-n
-    add-i
-    loop-less
+    (search needs)
+    (search needs)
+    (search needs)
+    (search needs)
+    (search needs)
+    (search needs)
+    (search needs)
     loop-again
     same-length-3
     returns-3)

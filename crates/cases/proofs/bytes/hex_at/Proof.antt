@@ -1,3 +1,4 @@
+-- After k turns n is the number of the first k digits, below 16 to the k, and reading on at i gives what reading all eight digits gives.
 use Prim.Native.Nat.{_-_}
 use native.Mathlib.Omega.{arith}
 use borrow.Author.Needs.{needs}
@@ -17,12 +18,6 @@ loop-holds c = hexing-start _ _
 returns : tie.Need-returns Inv-loop μ-loop
 returns c = hexing-short (c .before .before .loop .inv) (c .before .loop-test .taken) (c .if1 .taken)
 
-byte-requires : tie.Need-byte-requires Inv-loop μ-loop
-byte-requires c κs = search needs
-
-hex-digit-requires : tie.Need-hex-digit-requires Inv-loop μ-loop
-hex-digit-requires c κs = search needs
-
 returns-2 : tie.Need-returns-2 Inv-loop μ-loop
 returns-2 c = hexing-other (c .before .before .before .before .before .loop .inv) (c .before .before .before .before .loop-test .taken) (c .before .before .before .if1 .left) _ _ (c .before .before .byte .ensures) (c .before .hex-digit .ensures) (c .if2 .taken)
 
@@ -31,15 +26,6 @@ mul-n c = omega (arith, hexing-low (c .before .before .before .before .before .l
 
 add-n : tie.Need-add-n Inv-loop μ-loop
 add-n c = omega (arith, hexing-low (c .before .before .before .before .before .loop .inv) (c .before .before .before .before .loop-test .taken))
-
-add-i : tie.Need-add-i Inv-loop μ-loop
-add-i c = search needs
-
-add-k : tie.Need-add-k Inv-loop μ-loop
-add-k c = search needs
-
-loop-less : tie.Need-loop-less Inv-loop μ-loop
-loop-less c = search needs
 
 loop-again : tie.Need-loop-again Inv-loop μ-loop
 loop-again c = hexing-next (c .before .before .before .before .before .loop .inv) (c .before .before .before .before .loop-test .taken) (c .before .before .before .if1 .left) _ _ (c .before .before .byte .ensures) (c .before .hex-digit .ensures) (c .if2 .left)
@@ -55,13 +41,13 @@ hex-at-spec =
     μ-loop
     loop-holds
     returns
-    byte-requires
-    hex-digit-requires
+    (search needs)
+    (search needs)
     returns-2
     mul-n
     add-n
-    add-i
-    add-k
-    loop-less
+    (search needs)
+    (search needs)
+    (search needs)
     loop-again
     returns-3)

@@ -5,18 +5,6 @@ use Rattle.cases.specs.Bytes.{hexDigit}
 use Rattle.cases.proofs.bytes.hex_digit.Statement.{statement}
 use Rattle.cases.proofs.bytes.hex_digit.Tie as tie
 
-wide-requires : tie.Need-wide-requires
-wide-requires c κs = search needs
-
-sub-result : tie.Need-sub-result
-sub-result c = search needs
-
-wide-requires-2 : tie.Need-wide-requires-2
-wide-requires-2 c κs = search needs
-
-sub-result-2 : tie.Need-sub-result-2
-sub-result-2 c = search needs
-
 returns : tie.Need-returns
 unfolding hexDigit
 returns c = let b = c .before .before .before .args .b in (rw (le-leb 48 b (omega arith), le-leb b 57 (omega arith)) (omega arith), omega arith)
@@ -43,10 +31,10 @@ pub hex-digit-spec : {M : Type 1} → statement M
 hex-digit-spec =
     tie.close
     (tie.spec
-    wide-requires
-    sub-result
-    wide-requires-2
-    sub-result-2
+    (search needs)
+    (search needs)
+    (search needs)
+    (search needs)
     returns
     returns-2
     returns-3

@@ -1,3 +1,4 @@
+-- At every turn n is the number of the digits before i, and reading the rest of the word onto it gives what reading the whole word gives.
 use Prim.Native.Nat.{_-_}
 use borrow.Author.Needs.{needs}
 use Rattle.cases.proofs.Words.{Summing, summing-start, summing-end, summing-other, summing-large, summing-next, number-none, number-some}
@@ -10,41 +11,17 @@ Inv-loop line k from to n₀ i₀ n i = Summing line from to n i
 abbrev μ-loop : tie.MeasureT-loop
 μ-loop line k from to n₀ i₀ n i = to - i
 
-start-of-requires : tie.Need-start-of-requires Inv-loop μ-loop
-start-of-requires c κs = search needs
-
-end-of-requires : tie.Need-end-of-requires Inv-loop μ-loop
-end-of-requires c κs = search needs
-
 returns : tie.Need-returns Inv-loop μ-loop
 returns c = number-none _ _ _ _ (c .before .before .start-of .ensures) (c .before .end-of .ensures) (c .if1 .taken)
 
 loop-holds : tie.Need-loop-holds Inv-loop μ-loop
 loop-holds c = summing-start _ _ _ (c .before .end-of .ensures)
 
-byte-requires : tie.Need-byte-requires Inv-loop μ-loop
-byte-requires c κs = search needs
-
-hex-digit-requires : tie.Need-hex-digit-requires Inv-loop μ-loop
-hex-digit-requires c κs = search needs
-
 returns-2 : tie.Need-returns-2 Inv-loop μ-loop
 returns-2 c = number-some _ _ _ _ (c .before .before .before .before .before .before .before .start-of .ensures) (c .before .before .before .before .before .before .end-of .ensures) (c .before .before .before .before .before .if1 .left) (summing-other (c .before .before .before .before .loop .inv) (c .before .before .before .loop-test .taken) _ _ (c .before .before .byte .ensures) (c .before .hex-digit .ensures) (c .if2 .taken))
 
 returns-3 : tie.Need-returns-3 Inv-loop μ-loop
 returns-3 c = number-some _ _ _ _ (c .before .before .before .before .before .before .before .before .start-of .ensures) (c .before .before .before .before .before .before .before .end-of .ensures) (c .before .before .before .before .before .before .if1 .left) (summing-large (c .before .before .before .before .before .loop .inv) (c .before .before .before .before .loop-test .taken) _ _ (c .before .before .before .byte .ensures) (c .before .before .hex-digit .ensures) (c .before .if2 .left) (c .if3 .taken))
-
-mul-n : tie.Need-mul-n Inv-loop μ-loop
-mul-n c = search needs
-
-add-n : tie.Need-add-n Inv-loop μ-loop
-add-n c = search needs
-
-add-i : tie.Need-add-i Inv-loop μ-loop
-add-i c = search needs
-
-loop-less : tie.Need-loop-less Inv-loop μ-loop
-loop-less c = search needs
 
 loop-again : tie.Need-loop-again Inv-loop μ-loop
 loop-again c = summing-next (c .before .before .before .before .before .loop .inv) (c .before .before .before .before .loop-test .taken) _ _ (c .before .before .before .byte .ensures) (c .before .before .hex-digit .ensures) (c .before .if2 .left) (c .if3 .left)
@@ -58,17 +35,17 @@ number-of-spec =
     (tie.spec
     Inv-loop
     μ-loop
-    start-of-requires
-    end-of-requires
+    (search needs)
+    (search needs)
     returns
     loop-holds
-    byte-requires
-    hex-digit-requires
+    (search needs)
+    (search needs)
     returns-2
     returns-3
-    mul-n
-    add-n
-    add-i
-    loop-less
+    (search needs)
+    (search needs)
+    (search needs)
+    (search needs)
     loop-again
     returns-4)

@@ -1,3 +1,4 @@
+-- At every turn word k of the line starts where word `k - spaces` of what is left from i on starts; `spaces` is at most k.
 use mathlib.Core.Logic.{⊎-elim, inl, inr}
 use Prim.Native.Nat.{_-_}
 use lib.ListN.{length}
@@ -18,18 +19,6 @@ loop-holds c = starting-start _ _
 returns : tie.Need-returns Inv-loop μ-loop
 returns c = starting-found (c .before .before .loop .inv) (c .before .loop-test .taken) (c .if1 .taken)
 
-shared-slice-read-if2 : tie.Need-shared-slice-read-if2 Inv-loop μ-loop
-shared-slice-read-if2 c = search needs
-
-add-spaces : tie.Need-add-spaces Inv-loop μ-loop
-add-spaces c = search needs
-
-add-i : tie.Need-add-i Inv-loop μ-loop
-add-i c = search needs
-
-loop-less : tie.Need-loop-less Inv-loop μ-loop
-loop-less c = search needs
-
 loop-again : tie.Need-loop-again Inv-loop μ-loop
 loop-again c = starting-next (c .before .before .before .before .loop .inv) (c .before .before .before .loop-test .taken) (c .before .before .if1 .left) _ (⊎-elim (λ w. inl (w .0 .taken, w .1)) (λ w. inr (w .0 .left, w .1)) (c .if2 .came))
 
@@ -44,9 +33,9 @@ start-of-spec =
     μ-loop
     loop-holds
     returns
-    shared-slice-read-if2
-    add-spaces
-    add-i
-    loop-less
+    (search needs)
+    (search needs)
+    (search needs)
+    (search needs)
     loop-again
     returns-2)

@@ -6,27 +6,6 @@ use Rattle.cases.specs.Bytes.{twoAt}
 use Rattle.cases.proofs.bytes.two.Statement.{statement}
 use Rattle.cases.proofs.bytes.two.Tie as tie
 
-byte-requires : tie.Need-byte-requires
-byte-requires c κs = search needs
-
-wide-requires : tie.Need-wide-requires
-wide-requires c κs = search needs
-
-add-byte : tie.Need-add-byte
-add-byte c = search needs
-
-byte-requires-2 : tie.Need-byte-requires-2
-byte-requires-2 c κs = search needs
-
-wide-requires-2 : tie.Need-wide-requires-2
-wide-requires-2 c κs = search needs
-
-mul-result : tie.Need-mul-result
-mul-result c = search needs
-
-add-result : tie.Need-add-result
-add-result c = search needs
-
 returns : tie.Need-returns
 unfolding twoAt
 returns c = (omega arith, omega arith)
@@ -39,12 +18,12 @@ pub two-spec : {M : Type 1} → statement M
 two-spec =
     tie.close
     (tie.spec
-    byte-requires
-    wide-requires
-    add-byte
-    byte-requires-2
-    wide-requires-2
-    mul-result
-    add-result
+    (search needs)
+    (search needs)
+    (search needs)
+    (search needs)
+    (search needs)
+    (search needs)
+    (search needs)
     returns
     returns-2)

@@ -4,9 +4,6 @@ use Rattle.cases.specs.Compared.{digestDiffers}
 use Rattle.cases.proofs.compare.compare_digest.Statement.{statement}
 use Rattle.cases.proofs.compare.compare_digest.Tie as tie
 
-of-trays-requires : tie.Need-of-trays-requires
-of-trays-requires c κs = search needs
-
 returns : tie.Need-returns
 unfolding digestDiffers
 returns c = rw (← c .before .before .before .of-trays .ensures, ne-eqb _ _ (c .if1 .taken))
@@ -20,4 +17,4 @@ unfolding digestDiffers
 returns-3 c = rw (← c .before .before .before .before .before .before .of-trays .ensures, eq-eqb _ _ (c .before .before .before .if1 .left), eq-eqb _ _ (c .if2 .left))
 
 pub compare-digest-spec : {M : Type 1} → statement M
-compare-digest-spec = tie.close (tie.spec of-trays-requires returns returns-2 returns-3)
+compare-digest-spec = tie.close (tie.spec (search needs) returns returns-2 returns-3)

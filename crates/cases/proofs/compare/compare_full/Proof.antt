@@ -12,9 +12,6 @@ returns-2 : tie.Need-returns-2
 unfolding fullDiffers
 returns-2 c = rw (eq-eqb _ _ (c .before .if1 .left), ne-eqb _ _ (c .if2 .taken))
 
-are-zero-requires : tie.Need-are-zero-requires
-are-zero-requires c κs = search needs
-
 returns-3 : tie.Need-returns-3
 unfolding fullDiffers
 returns-3 c = rw (eq-eqb _ _ (c .before .before .before .if1 .left), eq-eqb _ _ (c .before .before .if2 .left), ← c .before .are-zero .ensures, c .if3 .taken)
@@ -24,4 +21,4 @@ unfolding fullDiffers
 returns-4 c = rw (eq-eqb _ _ (c .before .before .before .if1 .left), eq-eqb _ _ (c .before .before .if2 .left), ← c .before .are-zero .ensures, c .if3 .left)
 
 pub compare-full-spec : {M : Type 1} → statement M
-compare-full-spec = tie.close (tie.spec returns returns-2 are-zero-requires returns-3 returns-4)
+compare-full-spec = tie.close (tie.spec returns returns-2 (search needs) returns-3 returns-4)

@@ -10,42 +10,15 @@ use Rattle.cases.proofs.Differing.{line-differs, too-many}
 use Rattle.cases.proofs.compare.compare_line.Statement.{statement}
 use Rattle.cases.proofs.compare.compare_line.Tie as tie
 
-number-of-requires : tie.Need-number-of-requires
-number-of-requires c κs = search needs
-
 returns : tie.Need-returns
 unfolding differenceOf
 returns c = rw (← c .before .number-of .ensures, lt-ltb _ _ (c .if1 .taken))
 
-start-of-requires : tie.Need-start-of-requires
-start-of-requires c κs = search needs
-
-end-of-requires : tie.Need-end-of-requires
-end-of-requires c κs = search needs
-
-slice-aggregate-decode : tie.Need-slice-aggregate-decode
-slice-aggregate-decode c = search needs
-
-decode-requires : tie.Need-decode-requires
-decode-requires c κs = search needs
-
-slice-aggregate-branch : tie.Need-slice-aggregate-branch
-slice-aggregate-branch c = search needs
-
 returns-2 : tie.Need-returns-2
 returns-2 c = absurd (too-many _ (search needs) (c .before .before .before .decode .ensures .0) (c .if2 .taken))
 
-read-line-requires : tie.Need-read-line-requires
-read-line-requires c κs = search needs
-
 slice-aggregate-compare-call : tie.Need-slice-aggregate-compare-call
 slice-aggregate-compare-call c = sym (length-take-le _ _ (search needs))
-
-cast-compare-call : tie.Need-cast-compare-call
-cast-compare-call c = search needs
-
-compare-call-requires : tie.Need-compare-call-requires
-compare-call-requires c κs = search needs
 
 returns-3 : tie.Need-returns-3
 returns-3 c = line-differs _ _ _ _ _ _ _ _ (c .before .before .before .before .before .before .before .before .before .before .before .number-of .ensures) (omega (arith, c .before .before .before .before .before .before .before .before .before .before .if1 .left)) (c .before .before .before .before .before .before .before .before .before .start-of .ensures) (c .before .before .before .before .before .before .before .before .end-of .ensures) (length-replicate {A = ℕ} 2048 0) (c .before .before .before .before .before .before .decode .ensures .0) (c .before .before .before .before .before .before .decode .ensures .1) (c .before .before .read-line .ensures) (c .compare-call .ensures)
@@ -54,16 +27,16 @@ pub compare-line-spec : {M : Type 1} → statement M
 compare-line-spec =
     tie.close
     (tie.spec
-    number-of-requires
+    (search needs)
     returns
-    start-of-requires
-    end-of-requires
-    slice-aggregate-decode
-    decode-requires
-    slice-aggregate-branch
+    (search needs)
+    (search needs)
+    (search needs)
+    (search needs)
+    (search needs)
     returns-2
-    read-line-requires
+    (search needs)
     slice-aggregate-compare-call
-    cast-compare-call
-    compare-call-requires
+    (search needs)
+    (search needs)
     returns-3)

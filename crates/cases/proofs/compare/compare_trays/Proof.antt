@@ -3,18 +3,6 @@ use Rattle.cases.specs.Compared.{traysDiffer}
 use Rattle.cases.proofs.compare.compare_trays.Statement.{statement}
 use Rattle.cases.proofs.compare.compare_trays.Tie as tie
 
-nodes-agree-requires : tie.Need-nodes-agree-requires
-nodes-agree-requires c κs = search needs
-
-formulas-agree-requires : tie.Need-formulas-agree-requires
-formulas-agree-requires c κs = search needs
-
-edges-agree-requires : tie.Need-edges-agree-requires
-edges-agree-requires c κs = search needs
-
-compare-digest-requires : tie.Need-compare-digest-requires
-compare-digest-requires c κs = search needs
-
 returns : tie.Need-returns
 unfolding traysDiffer
 returns c = rw (← c .before .before .before .before .before .before .nodes-agree .ensures, c .before .before .before .before .before .if1 .taken, ← c .before .before .before .before .formulas-agree .ensures, c .before .before .before .if2 .taken, ← c .before .before .edges-agree .ensures, c .before .if3 .taken) (c .compare-digest .ensures)
@@ -35,10 +23,10 @@ pub compare-trays-spec : {M : Type 1} → statement M
 compare-trays-spec =
     tie.close
     (tie.spec
-    nodes-agree-requires
-    formulas-agree-requires
-    edges-agree-requires
-    compare-digest-requires
+    (search needs)
+    (search needs)
+    (search needs)
+    (search needs)
     returns
     returns-2
     returns-3

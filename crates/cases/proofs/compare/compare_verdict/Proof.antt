@@ -4,15 +4,9 @@ use Rattle.cases.specs.Compared.{verdictDiffers}
 use Rattle.cases.proofs.compare.compare_verdict.Statement.{statement}
 use Rattle.cases.proofs.compare.compare_verdict.Tie as tie
 
-letter-requires : tie.Need-letter-requires
-letter-requires c κs = search needs
-
 returns : tie.Need-returns
 unfolding verdictDiffers
 returns c = rw (← c .before .before .letter .ensures, ne-eqb _ _ (c .if1 .taken))
-
-compare-counts-requires : tie.Need-compare-counts-requires
-compare-counts-requires c κs = search needs
 
 returns-2 : tie.Need-returns-2
 unfolding verdictDiffers
@@ -20,4 +14,4 @@ returns-2 c = rw (← c .before .before .before .letter .ensures, eq-eqb _ _ (c 
 
 pub compare-verdict-spec : {M : Type 1} → statement M
 compare-verdict-spec =
-    tie.close (tie.spec letter-requires returns compare-counts-requires returns-2)
+    tie.close (tie.spec (search needs) returns (search needs) returns-2)

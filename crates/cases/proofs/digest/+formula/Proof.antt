@@ -1,3 +1,4 @@
+-- A number that is too large is `?`, and an atom its name; any other formula is its name and then its operands, which are earlier ones; an operand that is not is `?`.
 use mathlib.Core.Path.{sym, _∙_}
 use Rattle.cases.proofs.Formulas.{no-record, an-atom, no-first, one-operand, no-second, two-operands}
 use borrow.Author.Needs.{needs}

@@ -1,3 +1,4 @@
+-- A number below 10 is one figure; any other is n / 10, which is smaller, and then its last figure.
 use Rattle.cases.proofs.Fed.{one-figure, more-figures}
 use borrow.Author.Needs.{needs}
 use Prim.Native.Nat.{ℕ, _<_}

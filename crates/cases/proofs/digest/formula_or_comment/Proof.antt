@@ -3,17 +3,11 @@ use borrow.Author.Needs.{needs}
 use Rattle.cases.proofs.digest.formula_or_comment.Statement.{statement}
 use Rattle.cases.proofs.digest.formula_or_comment.Tie as tie
 
-add-requires : tie.Need-add-requires
-add-requires c κs = search needs
-
 returns : tie.Need-returns
 returns c = a-comment _ _ (c .before .if1 .taken) (c .add .ensures)
-
-formula-requires : tie.Need-formula-requires
-formula-requires c κs = search needs
 
 returns-2 : tie.Need-returns-2
 returns-2 c = no-comment _ _ (c .before .if1 .left) (c .formula .ensures)
 
 pub formula-or-comment-spec : {M : Type 1} → statement M
-formula-or-comment-spec = tie.close (tie.spec add-requires returns formula-requires returns-2)
+formula-or-comment-spec = tie.close (tie.spec (search needs) returns (search needs) returns-2)

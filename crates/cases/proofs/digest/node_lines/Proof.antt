@@ -1,3 +1,4 @@
+-- At every turn, the lines of the nodes from i on, fed to the digest so far, give what the lines of all nodes give.
 use Prim.Native.Nat.{_-_, min}
 use native.Mathlib.Omega.{arith}
 use Rattle.definition.specs.Limits.{mostIdentifiers}
@@ -18,18 +19,6 @@ loop-holds c = start _ _ _
 returns : tie.Need-returns Inv-loop μ-loop
 returns c = nodes-end _ _ _ _ (omega (arith, c .if1 .taken)) (c .before .before .loop .inv)
 
-mul-node-line : tie.Need-mul-node-line Inv-loop μ-loop
-mul-node-line c = search needs
-
-node-line-requires : tie.Need-node-line-requires Inv-loop μ-loop
-node-line-requires c κs = search needs
-
-add-i : tie.Need-add-i Inv-loop μ-loop
-add-i c = search needs
-
-loop-less : tie.Need-loop-less Inv-loop μ-loop
-loop-less c = search needs
-
 loop-again : tie.Need-loop-again Inv-loop μ-loop
 loop-again c = next _ _ _ _ (omega (arith, c .before .if1 .left, c .before .before .loop-test .taken)) (c .node-line .ensures) (c .before .before .before .loop .inv)
 
@@ -44,9 +33,9 @@ node-lines-spec =
     μ-loop
     loop-holds
     returns
-    mul-node-line
-    node-line-requires
-    add-i
-    loop-less
+    (search needs)
+    (search needs)
+    (search needs)
+    (search needs)
     loop-again
     returns-2)

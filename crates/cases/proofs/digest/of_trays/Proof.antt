@@ -1,3 +1,4 @@
+-- At every turn, the edge lines of the rows from u on, fed to the digest so far, give what those of all rows give after the node lines.
 use Prim.Native.Nat.{_-_, min}
 use native.Mathlib.Omega.{arith}
 use lib.ListN.{length}
@@ -13,29 +14,11 @@ Inv-loop nodes formulas edges identifiers text₀ u₀ text u = Left (world edge
 abbrev μ-loop : tie.MeasureT-loop
 μ-loop nodes formulas edges identifiers text₀ u₀ text u = edgeTrayLength - u
 
-node-lines-requires : tie.Need-node-lines-requires Inv-loop μ-loop
-node-lines-requires c κs = search needs
-
 loop-holds : tie.Need-loop-holds Inv-loop μ-loop
 loop-holds c = start _ _ _
 
 returns : tie.Need-returns Inv-loop μ-loop
 returns c = worlds-end _ _ _ _ _ (c .before .before .before .node-lines .ensures) (omega (arith, c .if1 .taken)) (c .before .before .loop .inv)
-
-mul-row : tie.Need-mul-row Inv-loop μ-loop
-mul-row c = search needs
-
-shared-slice-read-row : tie.Need-shared-slice-read-row Inv-loop μ-loop
-shared-slice-read-row c = search needs
-
-row-requires : tie.Need-row-requires Inv-loop μ-loop
-row-requires c κs = search needs
-
-add-u : tie.Need-add-u Inv-loop μ-loop
-add-u c = search needs
-
-loop-less : tie.Need-loop-less Inv-loop μ-loop
-loop-less c = search needs
 
 loop-again : tie.Need-loop-again Inv-loop μ-loop
 loop-again c = next _ _ _ _ (omega (arith, c .before .before .if1 .left, c .before .before .before .loop-test .taken)) (c .row .ensures) (c .before .before .before .before .loop .inv)
@@ -49,13 +32,13 @@ of-trays-spec =
     (tie.spec
     Inv-loop
     μ-loop
-    node-lines-requires
+    (search needs)
     loop-holds
     returns
-    mul-row
-    shared-slice-read-row
-    row-requires
-    add-u
-    loop-less
+    (search needs)
+    (search needs)
+    (search needs)
+    (search needs)
+    (search needs)
     loop-again
     returns-2)

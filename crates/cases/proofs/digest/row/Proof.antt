@@ -1,3 +1,4 @@
+-- At every turn `rest` is the bits halved v times, and the edge lines from v on, fed to the digest so far, give what all 32 give.
 use Prim.Native.Nat.{_-_}
 use Rattle.cases.proofs.Lines.{Bits, row-start, row-next, row-end}
 use borrow.Author.Needs.{needs}
@@ -13,15 +14,6 @@ abbrev μ-loop : tie.MeasureT-loop
 loop-holds : tie.Need-loop-holds Inv-loop μ-loop
 loop-holds c = row-start _ _ _
 
-edge-line-requires : tie.Need-edge-line-requires Inv-loop μ-loop
-edge-line-requires c κs = search needs
-
-add-v : tie.Need-add-v Inv-loop μ-loop
-add-v c = search needs
-
-loop-less : tie.Need-loop-less Inv-loop μ-loop
-loop-less c = search needs
-
 loop-again : tie.Need-loop-again Inv-loop μ-loop
 loop-again c = row-next (c .before .before .loop .inv) (c .before .loop-test .taken) (c .edge-line .ensures)
 
@@ -31,4 +23,4 @@ returns c = row-end (c .loop-test .left) (c .before .loop .inv)
 pub row-spec : {M : Type 1} → statement M
 row-spec =
     tie.close
-    (tie.spec Inv-loop μ-loop loop-holds edge-line-requires add-v loop-less loop-again returns)
+    (tie.spec Inv-loop μ-loop loop-holds (search needs) (search needs) (search needs) loop-again returns)

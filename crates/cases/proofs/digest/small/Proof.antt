@@ -4,21 +4,9 @@ use borrow.Author.Needs.{needs}
 use Rattle.cases.proofs.digest.small.Statement.{statement}
 use Rattle.cases.proofs.digest.small.Tie as tie
 
-byte-requires : tie.Need-byte-requires
-byte-requires c κs = search needs
-
-wide-requires : tie.Need-wide-requires
-wide-requires c κs = search needs
-
-number-requires : tie.Need-number-requires
-number-requires c κs = search needs
-
-add-requires : tie.Need-add-requires
-add-requires c κs = search needs
-
 returns : tie.Need-returns
 returns c = byte-field (c .before .before .wide .ensures .0 ∙ c .before .before .before .byte .ensures) (c .before .number .ensures) (c .add .ensures)
 
 pub small-spec : {M : Type 1} → statement M
 small-spec =
-    tie.close (tie.spec byte-requires wide-requires number-requires add-requires returns)
+    tie.close (tie.spec (search needs) (search needs) (search needs) (search needs) returns)

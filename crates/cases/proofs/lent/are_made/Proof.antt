@@ -1,3 +1,4 @@
+-- The records from `from` to below i have mark 0; at every turn those from i on decide.
 use Prim.Native.Nat.{_-_, _+_, _*_}
 use lib.Dec.{eqb}
 use lib.ListN.{getD}
@@ -17,24 +18,9 @@ abbrev μ-loop : tie.MeasureT-loop
 loop-holds : tie.Need-loop-holds Inv-loop μ-loop
 loop-holds c = between-start _ _ _
 
-mul-byte : tie.Need-mul-byte Inv-loop μ-loop
-mul-byte c = search needs
-
-add-byte : tie.Need-add-byte Inv-loop μ-loop
-add-byte c = search needs
-
-byte-requires : tie.Need-byte-requires Inv-loop μ-loop
-byte-requires c κs = search needs
-
 returns : tie.Need-returns Inv-loop μ-loop
 unfolding areMade
 returns c = between-miss (c .before .before .before .loop .inv) (c .before .before .loop-test .taken) (read-unequal (c .before .byte .ensures) (c .if1 .taken))
-
-add-i : tie.Need-add-i Inv-loop μ-loop
-add-i c = search needs
-
-loop-less : tie.Need-loop-less Inv-loop μ-loop
-loop-less c = search needs
 
 loop-again : tie.Need-loop-again Inv-loop μ-loop
 loop-again c = between-next (c .before .before .before .loop .inv) (c .before .before .loop-test .taken) (read-equal (c .before .byte .ensures) (c .if1 .left))
@@ -50,11 +36,11 @@ are-made-spec =
     Inv-loop
     μ-loop
     loop-holds
-    mul-byte
-    add-byte
-    byte-requires
+    (search needs)
+    (search needs)
+    (search needs)
     returns
-    add-i
-    loop-less
+    (search needs)
+    (search needs)
     loop-again
     returns-2)

@@ -1,3 +1,4 @@
+-- The nodes before i are marked; at every turn those from i on decide.
 use mathlib.Core.Path.{sym, _∙_}
 use Prim.Native.Nat.{_-_, _*_}
 use borrow.Author.Needs.{needs}
@@ -17,21 +18,9 @@ abbrev μ-loop : tie.MeasureT-loop
 loop-holds : tie.Need-loop-holds Inv-loop μ-loop
 loop-holds c = between-start _ _ _
 
-mul-is-marked : tie.Need-mul-is-marked Inv-loop μ-loop
-mul-is-marked c = search needs
-
-is-marked-requires : tie.Need-is-marked-requires Inv-loop μ-loop
-is-marked-requires c κs = search needs
-
 returns : tie.Need-returns Inv-loop μ-loop
 unfolding areMarked
 returns c = between-miss (c .before .before .before .loop .inv) (c .before .before .loop-test .taken) (sym (c .before .is-marked .ensures) ∙ not-true _ (c .if1 .taken))
-
-add-i : tie.Need-add-i Inv-loop μ-loop
-add-i c = search needs
-
-loop-less : tie.Need-loop-less Inv-loop μ-loop
-loop-less c = search needs
 
 loop-again : tie.Need-loop-again Inv-loop μ-loop
 loop-again c = between-next (c .before .before .before .loop .inv) (c .before .before .loop-test .taken) (sym (c .before .is-marked .ensures) ∙ not-false _ (c .if1 .left))
@@ -47,10 +36,10 @@ are-marked-spec =
     Inv-loop
     μ-loop
     loop-holds
-    mul-is-marked
-    is-marked-requires
+    (search needs)
+    (search needs)
     returns
-    add-i
-    loop-less
+    (search needs)
+    (search needs)
     loop-again
     returns-2)

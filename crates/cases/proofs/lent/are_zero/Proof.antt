@@ -4,22 +4,13 @@ use Rattle.cases.specs.Lent.{areZero}
 use Rattle.cases.proofs.lent.are_zero.Statement.{statement}
 use Rattle.cases.proofs.lent.are_zero.Tie as tie
 
-is-ended-requires : tie.Need-is-ended-requires
-is-ended-requires c κs = search needs
-
 returns : tie.Need-returns
 unfolding areZero
 returns c = rw (← c .before .is-ended .ensures, not-true (c .before .is-ended .result) (c .if1 .taken))
 
-is-ended-requires-2 : tie.Need-is-ended-requires-2
-is-ended-requires-2 c κs = search needs
-
 returns-2 : tie.Need-returns-2
 unfolding areZero
 returns-2 c = rw (← c .before .before .before .is-ended .ensures, not-false (c .before .before .before .is-ended .result) (c .before .before .if1 .left), ← c .before .is-ended2 .ensures, not-true (c .before .is-ended2 .result) (c .if2 .taken))
-
-edges-agree-requires : tie.Need-edges-agree-requires
-edges-agree-requires c κs = search needs
 
 returns-3 : tie.Need-returns-3
 unfolding areZero
@@ -29,9 +20,9 @@ pub are-zero-spec : {M : Type 1} → statement M
 are-zero-spec =
     tie.close
     (tie.spec
-    is-ended-requires
+    (search needs)
     returns
-    is-ended-requires-2
+    (search needs)
     returns-2
-    edges-agree-requires
+    (search needs)
     returns-3)

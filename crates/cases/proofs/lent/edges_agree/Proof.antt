@@ -1,3 +1,4 @@
+-- The rows from `worlds` to below u are unused ones; at every turn those from u on decide.
 use mathlib.Core.Path.{refl, sym, _∙_}
 use Prim.Native.Nat.{_-_}
 use lib.Dec.{eqb}
@@ -17,24 +18,9 @@ abbrev μ-loop : tie.MeasureT-loop
 loop-holds : tie.Need-loop-holds Inv-loop μ-loop
 loop-holds c = between-start _ _ _
 
-mul-if1 : tie.Need-mul-if1 Inv-loop μ-loop
-mul-if1 c = search needs
-
-shared-slice-read-if1 : tie.Need-shared-slice-read-if1 Inv-loop μ-loop
-shared-slice-read-if1 c = search needs
-
-unused-row-requires : tie.Need-unused-row-requires Inv-loop μ-loop
-unused-row-requires c κs = search needs
-
 returns : tie.Need-returns Inv-loop μ-loop
 unfolding edgesAgree
 returns c = between-miss (c .before .before .before .before .loop .inv) (c .before .before .before .loop-test .taken) (read-unequal refl (λ e. c .if1 .taken (e ∙ sym (c .before .unused-row .ensures))))
-
-add-u : tie.Need-add-u Inv-loop μ-loop
-add-u c = search needs
-
-loop-less : tie.Need-loop-less Inv-loop μ-loop
-loop-less c = search needs
 
 loop-again : tie.Need-loop-again Inv-loop μ-loop
 loop-again c = between-next (c .before .before .before .before .loop .inv) (c .before .before .before .loop-test .taken) (read-equal refl (c .if1 .left ∙ c .before .unused-row .ensures))
@@ -50,11 +36,11 @@ edges-agree-spec =
     Inv-loop
     μ-loop
     loop-holds
-    mul-if1
-    shared-slice-read-if1
-    unused-row-requires
+    (search needs)
+    (search needs)
+    (search needs)
     returns
-    add-u
-    loop-less
+    (search needs)
+    (search needs)
     loop-again
     returns-2)

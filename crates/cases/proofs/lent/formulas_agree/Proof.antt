@@ -8,21 +8,9 @@ returns : tie.Need-returns
 unfolding formulasAgree
 returns c = rw (lt-leb _ _ (c .if1 .taken))
 
-begins-requires : tie.Need-begins-requires
-begins-requires c κs = search needs
-
 returns-2 : tie.Need-returns-2
 unfolding formulasAgree
 returns-2 c = rw (le-leb _ _ (c .before .before .if1 .left), ← c .before .begins .ensures, not-true (c .before .begins .result) (c .if2 .taken))
-
-are-made-requires : tie.Need-are-made-requires
-are-made-requires c κs = search needs
-
-mul-is-ended : tie.Need-mul-is-ended
-mul-is-ended c = search needs
-
-is-ended-requires : tie.Need-is-ended-requires
-is-ended-requires c κs = search needs
 
 returns-3 : tie.Need-returns-3
 unfolding formulasAgree
@@ -37,10 +25,10 @@ formulas-agree-spec =
     tie.close
     (tie.spec
     returns
-    begins-requires
+    (search needs)
     returns-2
-    are-made-requires
-    mul-is-ended
-    is-ended-requires
+    (search needs)
+    (search needs)
+    (search needs)
     returns-3
     returns-4)

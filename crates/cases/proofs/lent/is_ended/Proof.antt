@@ -3,12 +3,6 @@ use Rattle.cases.specs.Lent.{isEnded}
 use Rattle.cases.proofs.lent.is_ended.Statement.{statement}
 use Rattle.cases.proofs.lent.is_ended.Tie as tie
 
-all-requires : tie.Need-all-requires
-all-requires c κs = search needs
-
-all-requires-2 : tie.Need-all-requires-2
-all-requires-2 c κs = search needs
-
 returns : tie.Need-returns
 unfolding isEnded
 returns c = rw (← c .before .before .all .ensures, c .before .if1 .taken) (c .all2 .ensures)
@@ -18,4 +12,4 @@ unfolding isEnded
 returns-2 c = rw (← c .before .all .ensures, c .if1 .left)
 
 pub is-ended-spec : {M : Type 1} → statement M
-is-ended-spec = tie.close (tie.spec all-requires all-requires-2 returns returns-2)
+is-ended-spec = tie.close (tie.spec (search needs) (search needs) returns returns-2)

@@ -9,37 +9,13 @@ returns : tie.Need-returns
 unfolding isMarked
 returns c = rw (le-ltb _ _ (c .if1 .taken))
 
-add-byte : tie.Need-add-byte
-add-byte c = search needs
-
-byte-requires : tie.Need-byte-requires
-byte-requires c κs = search needs
-
 returns-2 : tie.Need-returns-2
 unfolding isMarked
 returns-2 c = rw (lt-ltb _ _ (c .before .before .if1 .left), read-unequal (c .before .byte .ensures) (c .if2 .taken))
 
-add-two : tie.Need-add-two
-add-two c = search needs
-
-two-requires : tie.Need-two-requires
-two-requires c κs = search needs
-
-add-byte-2 : tie.Need-add-byte-2
-add-byte-2 c = search needs
-
-byte-requires-2 : tie.Need-byte-requires-2
-byte-requires-2 c κs = search needs
-
 returns-3 : tie.Need-returns-3
 unfolding isMarked
 returns-3 c = rw (lt-ltb _ _ (c .before .before .before .before .before .if1 .left), read-equal (c .before .before .before .before .byte .ensures) (c .before .before .before .if2 .left), read-equal (c .before .before .two .ensures .0) (c .before .if3 .taken), ← c .byte2 .ensures)
-
-add-byte-3 : tie.Need-add-byte-3
-add-byte-3 c = search needs
-
-byte-requires-3 : tie.Need-byte-requires-3
-byte-requires-3 c κs = search needs
 
 returns-4 : tie.Need-returns-4
 unfolding isMarked
@@ -50,14 +26,14 @@ is-marked-spec =
     tie.close
     (tie.spec
     returns
-    add-byte
-    byte-requires
+    (search needs)
+    (search needs)
     returns-2
-    add-two
-    two-requires
-    add-byte-2
-    byte-requires-2
+    (search needs)
+    (search needs)
+    (search needs)
+    (search needs)
     returns-3
-    add-byte-3
-    byte-requires-3
+    (search needs)
+    (search needs)
     returns-4)

@@ -8,15 +8,6 @@ returns : tie.Need-returns
 unfolding nodesAgree
 returns c = rw (lt-leb _ _ (c .if1 .taken))
 
-are-marked-requires : tie.Need-are-marked-requires
-are-marked-requires c κs = search needs
-
-mul-is-ended : tie.Need-mul-is-ended
-mul-is-ended c = search needs
-
-is-ended-requires : tie.Need-is-ended-requires
-is-ended-requires c κs = search needs
-
 returns-2 : tie.Need-returns-2
 unfolding nodesAgree
 returns-2 c = rw (le-leb _ _ (c .before .before .before .if1 .left), ← c .before .before .are-marked .ensures, c .before .if2 .taken) (c .is-ended .ensures)
@@ -28,4 +19,4 @@ returns-3 c = rw (le-leb _ _ (c .before .before .if1 .left), ← c .before .are-
 pub nodes-agree-spec : {M : Type 1} → statement M
 nodes-agree-spec =
     tie.close
-    (tie.spec returns are-marked-requires mul-is-ended is-ended-requires returns-2 returns-3)
+    (tie.spec returns (search needs) (search needs) (search needs) returns-2 returns-3)

@@ -9,29 +9,11 @@ use Rattle.cases.proofs.reading.feed.Tie as tie
 returns : tie.Need-returns
 returns c = λ h. absurd (omega (arith, h, c .if1 .taken))
 
-slice-reshare-prefix-finish : tie.Need-slice-reshare-prefix-finish
-slice-reshare-prefix-finish c = search needs
-
 slice-aggregate-finish : tie.Need-slice-aggregate-finish
 slice-aggregate-finish c = sym (length-take-le _ _ (search needs))
 
-finish-requires : tie.Need-finish-requires
-finish-requires c κs = search needs
-
-same-length : tie.Need-same-length
-same-length c = search needs
-
 returns-2 : tie.Need-returns-2
 returns-2 c = λ h. takes-newline _ _ _ h (c .before .before .if2 .taken) (c .finish .ensures)
-
-slice-write-line : tie.Need-slice-write-line
-slice-write-line c = search needs
-
-add-t13 : tie.Need-add-t13
-add-t13 c = search needs
-
-same-length-2 : tie.Need-same-length-2
-same-length-2 c = search needs
 
 returns-3 : tie.Need-returns-3
 returns-3 c = λ h. takes-byte _ _ _ h (c .before .if2 .left) (c .if3 .taken)
@@ -44,13 +26,13 @@ feed-spec =
     tie.close
     (tie.spec
     returns
-    slice-reshare-prefix-finish
+    (search needs)
     slice-aggregate-finish
-    finish-requires
-    same-length
+    (search needs)
+    (search needs)
     returns-2
-    slice-write-line
-    add-t13
-    same-length-2
+    (search needs)
+    (search needs)
+    (search needs)
     returns-3
     returns-4)

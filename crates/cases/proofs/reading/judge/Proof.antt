@@ -3,72 +3,6 @@ use Rattle.cases.specs.Tally.{judged}
 use Rattle.cases.proofs.reading.judge.Statement.{statement}
 use Rattle.cases.proofs.reading.judge.Tie as tie
 
-enum-told : tie.Need-enum-told
-enum-told c = search needs
-
-enum-told-2 : tie.Need-enum-told-2
-enum-told-2 c = search needs
-
-slice-aggregate-report : tie.Need-slice-aggregate-report
-slice-aggregate-report c = search needs
-
-report-requires : tie.Need-report-requires
-report-requires c κs = search needs
-
-enum-told-3 : tie.Need-enum-told-3
-enum-told-3 c = search needs
-
-slice-aggregate-report-2 : tie.Need-slice-aggregate-report-2
-slice-aggregate-report-2 c = search needs
-
-report-requires-2 : tie.Need-report-requires-2
-report-requires-2 c κs = search needs
-
-enum-told-4 : tie.Need-enum-told-4
-enum-told-4 c = search needs
-
-slice-aggregate-report-3 : tie.Need-slice-aggregate-report-3
-slice-aggregate-report-3 c = search needs
-
-report-requires-3 : tie.Need-report-requires-3
-report-requires-3 c κs = search needs
-
-enum-told-5 : tie.Need-enum-told-5
-enum-told-5 c = search needs
-
-slice-aggregate-report-4 : tie.Need-slice-aggregate-report-4
-slice-aggregate-report-4 c = search needs
-
-report-requires-4 : tie.Need-report-requires-4
-report-requires-4 c κs = search needs
-
-enum-told-6 : tie.Need-enum-told-6
-enum-told-6 c = search needs
-
-slice-aggregate-report-5 : tie.Need-slice-aggregate-report-5
-slice-aggregate-report-5 c = search needs
-
-report-requires-5 : tie.Need-report-requires-5
-report-requires-5 c κs = search needs
-
-enum-told-7 : tie.Need-enum-told-7
-enum-told-7 c = search needs
-
-slice-aggregate-report-6 : tie.Need-slice-aggregate-report-6
-slice-aggregate-report-6 c = search needs
-
-report-requires-6 : tie.Need-report-requires-6
-report-requires-6 c κs = search needs
-
-enum-told-8 : tie.Need-enum-told-8
-enum-told-8 c = search needs
-
-slice-aggregate-report-7 : tie.Need-slice-aggregate-report-7
-slice-aggregate-report-7 c = search needs
-
-report-requires-7 : tie.Need-report-requires-7
-report-requires-7 c κs = search needs
-
 returns : tie.Need-returns
 unfolding judged
 returns c = rw (c .enum-told .given .1)
@@ -105,28 +39,28 @@ pub judge-spec : {M : Type 1} → statement M
 judge-spec =
     tie.close
     (tie.spec
-    enum-told
-    enum-told-2
-    slice-aggregate-report
-    report-requires
-    enum-told-3
-    slice-aggregate-report-2
-    report-requires-2
-    enum-told-4
-    slice-aggregate-report-3
-    report-requires-3
-    enum-told-5
-    slice-aggregate-report-4
-    report-requires-4
-    enum-told-6
-    slice-aggregate-report-5
-    report-requires-5
-    enum-told-7
-    slice-aggregate-report-6
-    report-requires-6
-    enum-told-8
-    slice-aggregate-report-7
-    report-requires-7
+    (search needs)
+    (search needs)
+    (search needs)
+    (search needs)
+    (search needs)
+    (search needs)
+    (search needs)
+    (search needs)
+    (search needs)
+    (search needs)
+    (search needs)
+    (search needs)
+    (search needs)
+    (search needs)
+    (search needs)
+    (search needs)
+    (search needs)
+    (search needs)
+    (search needs)
+    (search needs)
+    (search needs)
+    (search needs)
     returns
     returns-2
     returns-3

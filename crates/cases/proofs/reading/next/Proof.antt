@@ -4,9 +4,6 @@ use Rattle.cases.specs.Tally.{oneMore}
 use Rattle.cases.proofs.reading.next.Statement.{statement}
 use Rattle.cases.proofs.reading.next.Tie as tie
 
-add-result : tie.Need-add-result
-add-result c = search needs
-
 returns : tie.Need-returns
 unfolding oneMore
 returns c = rw (lt-ltb _ _ (c .if1 .taken))
@@ -16,4 +13,4 @@ unfolding oneMore
 returns-2 c = rw (le-ltb _ _ (c .if1 .left))
 
 pub next-spec : {M : Type 1} → statement M
-next-spec = tie.close (tie.spec add-result returns returns-2)
+next-spec = tie.close (tie.spec (search needs) returns returns-2)

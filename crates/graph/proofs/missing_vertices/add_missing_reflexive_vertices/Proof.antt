@@ -1,3 +1,4 @@
+-- After n turns the array has the graph's edges and, of the first n pairs, those of a world with itself; beyond the rows of the worlds there are none.
 use borrow.Author.Needs.{needs}
 use Prim.Native.Nat.{_-_, _*_, _≤_}
 use mathlib.Core.Path.{_≡_, _∙_}

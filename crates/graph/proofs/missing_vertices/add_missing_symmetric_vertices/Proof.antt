@@ -1,3 +1,4 @@
+-- After n turns the array has the graph's edges and, of the first n pairs, those that are edges the other way in the graph as it stood; beyond the worlds there are none.
 use borrow.Author.Needs.{needs}
 use Prim.Native.Nat.{_-_, _*_, _≤_}
 use mathlib.Core.Path.{_≡_, _∙_}

@@ -5,29 +5,17 @@ use borrow.Author.Needs.{needs}
 use Rattle.graph.proofs.missing_vertices.is_paired.Statement.{statement}
 use Rattle.graph.proofs.missing_vertices.is_paired.Tie as tie
 
-contains-requires : tie.Need-contains-requires
-contains-requires c κs = search needs
-
 returns : tie.Need-returns
 unfolding paired
 returns c = λ g k d. rw (sym (c .before .contains .ensures g k d) ∙ not-true _ (c .if1 .taken))
-
-contains-requires-2 : tie.Need-contains-requires-2
-contains-requires-2 c κs = search needs
 
 returns-2 : tie.Need-returns-2
 unfolding paired
 returns-2 c = λ g k d. rw (sym (c .before .before .before .contains .ensures g k d) ∙ not-false _ (c .before .before .if1 .left), sym (c .before .contains2 .ensures g k d) ∙ not-true _ (c .if2 .taken))
 
-is-requires : tie.Need-is-requires
-is-requires c κs = search needs
-
 returns-3 : tie.Need-returns-3
 unfolding paired
 returns-3 c = λ g k d. rw (sym (c .before .before .before .before .before .contains .ensures g k d) ∙ not-false _ (c .before .before .before .before .if1 .left), sym (c .before .before .before .contains2 .ensures g k d) ∙ not-false _ (c .before .before .if2 .left), sym (c .before .is .ensures) ∙ not-true _ (c .if3 .taken))
-
-is-requires-2 : tie.Need-is-requires-2
-is-requires-2 c κs = search needs
 
 returns-4 : tie.Need-returns-4
 unfolding paired
@@ -37,11 +25,11 @@ pub is-paired-spec : {M : Type 1} → statement M
 is-paired-spec =
     tie.close
     (tie.spec
-    contains-requires
+    (search needs)
     returns
-    contains-requires-2
+    (search needs)
     returns-2
-    is-requires
+    (search needs)
     returns-3
-    is-requires-2
+    (search needs)
     returns-4)

@@ -1,3 +1,4 @@
+-- The two worlds have no edge, and no world before v joins them by unequal edges; at every turn the worlds from v on decide.
 use borrow.Author.Needs.{needs}
 use Prim.Native.Nat.{_-_, _≤_}
 use mathlib.Core.Path.{_≡_, sym, _∙_}

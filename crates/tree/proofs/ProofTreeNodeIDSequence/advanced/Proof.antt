@@ -4,9 +4,6 @@ use Rattle.tree.proofs.Sequence.{room, count-full, count-more}
 use Rattle.tree.proofs.ProofTreeNodeIDSequence.advanced.Statement.{statement}
 use Rattle.tree.proofs.ProofTreeNodeIDSequence.advanced.Tie as tie
 
-is-full-requires : tie.Need-is-full-requires
-is-full-requires c κs = search needs
-
 returns : tie.Need-returns
 returns c = count-full _ (c .before .is-full .ensures) (c .if1 .taken)
 
@@ -17,4 +14,4 @@ returns-2 : tie.Need-returns-2
 returns-2 c = count-more _ (c .before .before .is-full .ensures) (c .before .if1 .left)
 
 pub advanced-spec : {M : Type 1} → statement M
-advanced-spec = tie.close (tie.spec is-full-requires returns add-t3 returns-2)
+advanced-spec = tie.close (tie.spec (search needs) returns add-t3 returns-2)

@@ -4,9 +4,6 @@ use Rattle.tree.proofs.Sequence.{room, id-none, id-next}
 use Rattle.tree.proofs.ProofTreeNodeIDSequence.current.Statement.{statement}
 use Rattle.tree.proofs.ProofTreeNodeIDSequence.current.Tie as tie
 
-is-full-requires : tie.Need-is-full-requires
-is-full-requires c κs = search needs
-
 returns : tie.Need-returns
 returns c = id-none _ (c .before .is-full .ensures) (c .if1 .taken)
 
@@ -17,4 +14,4 @@ returns-2 : tie.Need-returns-2
 returns-2 c = id-next _ (c .before .before .is-full .ensures) (c .before .if1 .left)
 
 pub current-spec : {M : Type 1} → statement M
-current-spec = tie.close (tie.spec is-full-requires returns cast-t3 returns-2)
+current-spec = tie.close (tie.spec (search needs) returns cast-t3 returns-2)

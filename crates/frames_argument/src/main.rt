@@ -1,0 +1,6 @@
+// Eight Frames with an argument: nothing is printed on standard output, whatever standard input has.
+fn main() {
+    let mut kept = [0u8; frames::KEPT_LENGTH];
+    let mut text = [0u8; frames::TEXT_LENGTH];
+    frames::run(os::arg_count(), &mut kept, &mut text);
+}
