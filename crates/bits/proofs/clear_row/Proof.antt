@@ -27,18 +27,4 @@ returns-2 : tie.Need-returns-2 Inv-loop μ-loop
 returns-2 c = λ p b. row-end _ p _ _ (c .loop-test .left) (c .before .loop .inv .2 p b)
 
 pub clear-row-spec : {M : Type 1} → statement M
-clear-row-spec =
-    tie.close
-    (tie.spec
-    Inv-loop
-    μ-loop
-    returns
-    (search needs)
-    (search needs)
-    loop-holds
-    (search needs)
-    (search needs)
-    (search needs)
-    (search needs)
-    loop-again
-    returns-2)
+clear-row-spec = tie.close (tie.spec Inv-loop μ-loop returns (search needs) (search needs) loop-holds (search needs) (search needs) (search needs) (search needs) loop-again returns-2)

@@ -10,13 +10,4 @@ returns-2 : tie.Need-returns-2
 returns-2 c = λ p b. insert-in p _ _ _ (c .before .before .if1 .left) (c .with-bit .ensures) b
 
 pub insert-spec : {M : Type 1} → statement M
-insert-spec =
-    tie.close
-    (tie.spec
-    returns
-    (search needs)
-    (search needs)
-    (search needs)
-    (search needs)
-    (search needs)
-    returns-2)
+insert-spec = tie.close (tie.spec returns (search needs) (search needs) (search needs) (search needs) (search needs) returns-2)

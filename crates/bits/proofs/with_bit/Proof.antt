@@ -14,5 +14,4 @@ returns-2 : tie.Need-returns-2
 returns-2 c = λ k h. set-bit _ _ (search needs) (sym (c .before .bit .ensures) ∙ c .if1 .left) k
 
 pub with-bit-spec : {M : Type 1} → statement M
-with-bit-spec =
-    tie.close (tie.spec (search needs) returns (search needs) (search needs) add-result returns-2)
+with-bit-spec = tie.close (tie.spec (search needs) returns (search needs) (search needs) add-result returns-2)

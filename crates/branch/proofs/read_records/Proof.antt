@@ -33,19 +33,4 @@ returns-3 : tie.Need-returns-3 Inv-loop μ-loop
 returns-3 c = λ few p. reading-end _ (c .before .loop .inv .1 p) (c .loop-test .left)
 
 pub read-records-spec : {M : Type 1} → statement M
-read-records-spec =
-    tie.close
-    (tie.spec
-    Inv-loop
-    μ-loop
-    loop-holds
-    returns
-    (search needs)
-    (search needs)
-    returns-2
-    (search needs)
-    (search needs)
-    (search needs)
-    (search needs)
-    loop-again
-    returns-3)
+read-records-spec = tie.close (tie.spec Inv-loop μ-loop loop-holds returns (search needs) (search needs) returns-2 (search needs) (search needs) (search needs) (search needs) loop-again returns-3)

@@ -20,19 +20,4 @@ returns : tie.Need-returns Inv-loop μ-loop
 returns c = tt
 
 pub main-spec : {M : Type 1} → statement M
-main-spec =
-    tie.close
-    (tie.spec
-    Inv-loop
-    μ-loop
-    (search needs)
-    loop-holds
-    (search needs)
-    (search needs)
-    (search needs)
-    loop-again
-    (search needs)
-    (search needs)
-    (search needs)
-    (search needs)
-    returns)
+main-spec = tie.close (tie.spec Inv-loop μ-loop (search needs) loop-holds (search needs) (search needs) (search needs) loop-again (search needs) (search needs) (search needs) (search needs) returns)

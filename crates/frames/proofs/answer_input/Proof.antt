@@ -16,18 +16,4 @@ returns-3 : tie.Need-returns-3
 returns-3 c = printed (subst (Reads _) (c .before .before .before .before .before .before .before .before .before .before .before .seen .given .1) (c .before .before .before .before .before .before .before .before .before .before .before .before .before .read-all .ensures)) (c .before .before .before .before .before .before .lines-of .ensures .1)
 
 pub answer-input-spec : {M : Type 1} → statement M
-answer-input-spec =
-    tie.close
-    (tie.spec
-    (search needs)
-    (search needs)
-    (search needs)
-    (search needs)
-    (search needs)
-    lines-of-requires
-    (search needs)
-    returns
-    (search needs)
-    (search needs)
-    (search needs)
-    returns-3)
+answer-input-spec = tie.close (tie.spec (search needs) (search needs) (search needs) (search needs) (search needs) lines-of-requires (search needs) returns (search needs) (search needs) (search needs) returns-3)

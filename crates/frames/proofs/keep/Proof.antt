@@ -23,19 +23,4 @@ returns : tie.Need-returns Inv-loop μ-loop
 returns c = (search needs, kept-all (c .before .before .before .room .ensures) (search needs) (c .before .before .loop .inv .1))
 
 pub keep-spec : {M : Type 1} → statement M
-keep-spec =
-    tie.close
-    (tie.spec
-    Inv-loop
-    μ-loop
-    (search needs)
-    loop-holds
-    (search needs)
-    (search needs)
-    (search needs)
-    (search needs)
-    (search needs)
-    loop-again
-    (search needs)
-    (search needs)
-    returns)
+keep-spec = tie.close (tie.spec Inv-loop μ-loop (search needs) loop-holds (search needs) (search needs) (search needs) (search needs) (search needs) loop-again (search needs) (search needs) returns)

@@ -24,6 +24,4 @@ returns : tie.Need-returns Inv-loop μ-loop
 returns c = lines-all _ _ (c .before .loop .inv .0) (search needs)
 
 pub lines-spec : {M : Type 1} → statement M
-lines-spec =
-    tie.close
-    (tie.spec Inv-loop μ-loop loop-holds (search needs) (search needs) (search needs) loop-again returns)
+lines-spec = tie.close (tie.spec Inv-loop μ-loop loop-holds (search needs) (search needs) (search needs) loop-again returns)

@@ -23,18 +23,4 @@ returns : tie.Need-returns Inv-loop μ-loop
 returns c = copied-all (search needs) (search needs) (c .before .loop .inv .1)
 
 pub put-spec : {M : Type 1} → statement M
-put-spec =
-    tie.close
-    (tie.spec
-    Inv-loop
-    μ-loop
-    loop-holds
-    (search needs)
-    (search needs)
-    (search needs)
-    (search needs)
-    (search needs)
-    loop-again
-    (search needs)
-    (search needs)
-    returns)
+put-spec = tie.close (tie.spec Inv-loop μ-loop loop-holds (search needs) (search needs) (search needs) (search needs) (search needs) loop-again (search needs) (search needs) returns)

@@ -7,6 +7,4 @@ returns : tie.Need-returns
 returns c = (put-three _ _ _ (c .before .before .before .before .before .before .before .before .before .before .put-number .ensures .0) (c .before .before .before .before .before .before .put-number2 .ensures .0) (c .before .before .put-number3 .ensures .0), search needs)
 
 pub put-counts-spec : {M : Type 1} → statement M
-put-counts-spec =
-    tie.close
-    (tie.spec (search needs) (search needs) (search needs) (search needs) returns)
+put-counts-spec = tie.close (tie.spec (search needs) (search needs) (search needs) (search needs) returns)

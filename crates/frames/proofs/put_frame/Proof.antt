@@ -10,13 +10,4 @@ unfolding zeroTrays
 returns c = (put-answer _ _ _ _ (c .before .before .before .before .before .before .before .prove .ensures .answers) refl (c .before .before .put-line .ensures .0), search needs)
 
 pub put-frame-spec : {M : Type 1} → statement M
-put-frame-spec =
-    tie.close
-    (tie.spec
-    (search needs)
-    (search needs)
-    (search needs)
-    (search needs)
-    (search needs)
-    (search needs)
-    returns)
+put-frame-spec = tie.close (tie.spec (search needs) (search needs) (search needs) (search needs) (search needs) (search needs) returns)

@@ -15,14 +15,4 @@ returns : tie.Need-returns
 returns c = put-number _ _ _ (search needs) (c .before .before .before .before .before .before .before .before .before .before .decimal .ensures .1 .0) (c .before .before .before .before .before .before .before .before .before .before .decimal .ensures .1 .1) (c .before .before .before .before .before .before .before .put .ensures) (c .before .before .put2 .ensures)
 
 pub put-number-spec : {M : Type 1} → statement M
-put-number-spec =
-    tie.close
-    (tie.spec
-    (search needs)
-    (search needs)
-    (search needs)
-    put-requires
-    (search needs)
-    put-requires-2
-    (search needs)
-    returns)
+put-number-spec = tie.close (tie.spec (search needs) (search needs) (search needs) put-requires (search needs) put-requires-2 (search needs) returns)

@@ -7,12 +7,4 @@ returns : tie.Need-returns
 returns c = (put-three _ _ _ (c .before .before .before .before .before .before .before .before .before .before .put .ensures) (c .before .before .before .before .before .before .put-number .ensures .0) (c .before .before .put-number2 .ensures .0), search needs)
 
 pub put-refusal-spec : {M : Type 1} → statement M
-put-refusal-spec =
-    tie.close
-    (tie.spec
-    (search needs)
-    (search needs)
-    (search needs)
-    (search needs)
-    (search needs)
-    returns)
+put-refusal-spec = tie.close (tie.spec (search needs) (search needs) (search needs) (search needs) (search needs) returns)

@@ -22,22 +22,4 @@ unfolding wordOf
 returns-4 c = put-word false false (c .before .before .before .before .before .before .if1 .left) (c .before .before .before .before .before .if3 .left) (c .before .before .put4 .ensures)
 
 pub put-word-spec : {M : Type 1} → statement M
-put-word-spec =
-    tie.close
-    (tie.spec
-    (search needs)
-    (search needs)
-    (search needs)
-    returns
-    (search needs)
-    (search needs)
-    (search needs)
-    returns-2
-    (search needs)
-    (search needs)
-    (search needs)
-    returns-3
-    (search needs)
-    (search needs)
-    (search needs)
-    returns-4)
+put-word-spec = tie.close (tie.spec (search needs) (search needs) (search needs) returns (search needs) (search needs) (search needs) returns-2 (search needs) (search needs) (search needs) returns-3 (search needs) (search needs) (search needs) returns-4)

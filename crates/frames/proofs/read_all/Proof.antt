@@ -29,22 +29,4 @@ returns-3 : tie.Need-returns-3 Inv-loop μ-loop
 returns-3 c = tt
 
 pub read-all-spec : {M : Type 1} → statement M
-read-all-spec =
-    tie.close
-    (tie.spec
-    Inv-loop
-    μ-loop
-    loop-holds
-    (λ c κs. search needs)
-    (search needs)
-    (search needs)
-    returns
-    (search needs)
-    (search needs)
-    returns-2
-    (search needs)
-    (search needs)
-    (search needs)
-    loop-again
-    (search needs)
-    returns-3)
+read-all-spec = tie.close (tie.spec Inv-loop μ-loop loop-holds (λ c κs. search needs) (search needs) (search needs) returns (search needs) (search needs) returns-2 (search needs) (search needs) (search needs) loop-again (search needs) returns-3)

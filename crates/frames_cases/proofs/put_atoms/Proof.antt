@@ -16,15 +16,4 @@ returns : tie.Need-returns Inv-loop μ-loop
 returns c = tt
 
 pub put-atoms-spec : {M : Type 1} → statement M
-put-atoms-spec =
-    tie.close
-    (tie.spec
-    Inv-loop
-    μ-loop
-    (search needs)
-    (search needs)
-    (search needs)
-    (search needs)
-    (search needs)
-    (search needs)
-    returns)
+put-atoms-spec = tie.close (tie.spec Inv-loop μ-loop (search needs) (search needs) (search needs) (search needs) (search needs) (search needs) returns)

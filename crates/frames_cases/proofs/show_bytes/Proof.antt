@@ -8,6 +8,4 @@ slice-aggregate-lines : tie.Need-slice-aggregate-lines
 slice-aggregate-lines c = sym (length-take-le _ _ (search needs))
 
 pub show-bytes-spec : {M : Type 1} → statement M
-show-bytes-spec =
-    tie.close
-    (tie.spec (search needs) slice-aggregate-lines (search needs) (search needs) (search needs) (search needs) (search needs) (search needs))
+show-bytes-spec = tie.close (tie.spec (search needs) slice-aggregate-lines (search needs) (search needs) (search needs) (search needs) (search needs) (search needs))

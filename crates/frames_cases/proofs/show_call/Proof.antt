@@ -8,6 +8,4 @@ slice-aggregate-prove-2 : tie.Need-slice-aggregate-prove-2
 slice-aggregate-prove-2 c = sym (length-take-le _ _ (search needs))
 
 pub show-call-spec : {M : Type 1} → statement M
-show-call-spec =
-    tie.close
-    (tie.spec (search needs) (search needs) (search needs) slice-aggregate-prove-2 (search needs) (search needs) (search needs) (search needs) (search needs) (search needs) (search needs) (search needs) (search needs))
+show-call-spec = tie.close (tie.spec (search needs) (search needs) (search needs) slice-aggregate-prove-2 (search needs) (search needs) (search needs) (search needs) (search needs) (search needs) (search needs) (search needs) (search needs))

@@ -20,21 +20,4 @@ returns : tie.Need-returns Inv-loop μ-loop
 returns c = tt
 
 pub show-long-spec : {M : Type 1} → statement M
-show-long-spec =
-    tie.close
-    (tie.spec
-    Inv-loop
-    μ-loop
-    (search needs)
-    (search needs)
-    (search needs)
-    (search needs)
-    (search needs)
-    (search needs)
-    (search needs)
-    (search needs)
-    slice-aggregate-keep-2
-    (search needs)
-    (search needs)
-    (search needs)
-    returns)
+show-long-spec = tie.close (tie.spec Inv-loop μ-loop (search needs) (search needs) (search needs) (search needs) (search needs) (search needs) (search needs) (search needs) slice-aggregate-keep-2 (search needs) (search needs) (search needs) returns)

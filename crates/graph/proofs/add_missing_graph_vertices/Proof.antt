@@ -22,11 +22,4 @@ unfolding asked
 returns-2 c = λ g d. ran-all _ (first (c .before .before)) (second (c .before)) (idle (c .if3 .left) refl) g d
 
 pub add-missing-graph-vertices-spec : {M : Type 1} → statement M
-add-missing-graph-vertices-spec =
-    tie.close
-    (tie.spec
-    (search needs)
-    (search needs)
-    (search needs)
-    returns
-    returns-2)
+add-missing-graph-vertices-spec = tie.close (tie.spec (search needs) (search needs) (search needs) returns returns-2)

@@ -15,14 +15,4 @@ returns-3 : tie.Need-returns-3
 returns-3 c = λ e q. grid-set e _ _ q (c .before .if1 .left) (c .if2 .left)
 
 pub add-vertex-spec : {M : Type 1} → statement M
-add-vertex-spec =
-    tie.close
-    (tie.spec
-    (search needs)
-    (search needs)
-    returns
-    returns-2
-    (search needs)
-    (search needs)
-    (search needs)
-    returns-3)
+add-vertex-spec = tie.close (tie.spec (search needs) (search needs) returns returns-2 (search needs) (search needs) (search needs) returns-3)

@@ -16,14 +16,4 @@ returns-3 : tie.Need-returns-3
 returns-3 c = λ g n d. drawn-cell d _ _ (c .before .before .if1 .left) (c .before .if2 .left)
 
 pub contains-spec : {M : Type 1} → statement M
-contains-spec =
-    tie.close
-    (tie.spec
-    (search needs)
-    (search needs)
-    returns
-    returns-2
-    (search needs)
-    (search needs)
-    (search needs)
-    returns-3)
+contains-spec = tie.close (tie.spec (search needs) (search needs) returns returns-2 (search needs) (search needs) (search needs) returns-3)

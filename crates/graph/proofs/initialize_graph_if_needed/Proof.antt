@@ -10,5 +10,4 @@ returns-2 : tie.Need-returns-2
 returns-2 c = λ g d. init-made _ d (c .before .before .if1 .left) (c .add-missing-graph-vertices .ensures)
 
 pub initialize-graph-if-needed-spec : {M : Type 1} → statement M
-initialize-graph-if-needed-spec =
-    tie.close (tie.spec returns (search needs) returns-2)
+initialize-graph-if-needed-spec = tie.close (tie.spec returns (search needs) returns-2)

@@ -31,15 +31,4 @@ returns c = (
 )
 
 pub apply-possibility-spec : {M : Type 1} → statement M
-apply-possibility-spec =
-    tie.close
-    (tie.spec
-    (search needs)
-    (search needs)
-    (search needs)
-    (search needs)
-    (search needs)
-    (search needs)
-    (search needs)
-    (search needs)
-    returns)
+apply-possibility-spec = tie.close (tie.spec (search needs) (search needs) (search needs) (search needs) (search needs) (search needs) (search needs) (search needs) returns)

@@ -53,17 +53,4 @@ returns c = λ t more fk n ls rs s f l k seen h i.
     record { nodes = e .0; rows = e .1 }
 
 pub give-on-spec : {M : Type 1} → statement M
-give-on-spec =
-    tie.close
-    (tie.spec
-    Inv-loop
-    μ-loop
-    loop-holds
-    (search needs)
-    (search needs)
-    (search needs)
-    (search needs)
-    (search needs)
-    (search needs)
-    loop-again
-    returns)
+give-on-spec = tie.close (tie.spec Inv-loop μ-loop loop-holds (search needs) (search needs) (search needs) (search needs) (search needs) (search needs) loop-again returns)

@@ -40,15 +40,4 @@ returns-4 c = λ t more g ns none rs n i bits fk s is fe d b tree at seen h list
     (kept-out t g fk ns i none _ e (c .if3 .left) h list, λ fits. stack-out t g fk ns i none e (c .if3 .left) s)
 
 pub reapply-if-on-path-spec : {M : Type 1} → statement M
-reapply-if-on-path-spec =
-    tie.close
-    (tie.spec
-    returns
-    (search needs)
-    returns-2
-    (search needs)
-    (search needs)
-    (search needs)
-    (search needs)
-    returns-3
-    returns-4)
+reapply-if-on-path-spec = tie.close (tie.spec returns (search needs) returns-2 (search needs) (search needs) (search needs) (search needs) returns-3 returns-4)

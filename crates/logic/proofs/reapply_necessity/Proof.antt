@@ -19,12 +19,4 @@ returns-2 c = λ t more g fk ns none rs n i bits s is w l small seen h list.
     (gave-again t fk g nec w (c .before .before .before .give-on .ensures t more fk nec _ rs (sym (c .before .before .before .before .before .spawner-at .ensures nec _ row)) (sym (c .before .before .before .before .before .before .before .before .formula-at .ensures nec _ row)) l small seen h list), stack-set ns i (visiting-some t g nec w (λ e. c .before .before .if1 .left (sym (listed-count l small) ∙ e))) (c .visit .ensures ns n i bits none s is))
 
 pub reapply-necessity-spec : {M : Type 1} → statement M
-reapply-necessity-spec =
-    tie.close
-    (tie.spec
-    (search needs)
-    (search needs)
-    (search needs)
-    returns
-    (search needs)
-    returns-2)
+reapply-necessity-spec = tie.close (tie.spec (search needs) (search needs) (search needs) returns (search needs) returns-2)

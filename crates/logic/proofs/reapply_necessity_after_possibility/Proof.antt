@@ -64,18 +64,4 @@ returns-2 c = λ t more g ns rs bits fk s fe d b tree at seen h list.
     (record { nodes = e .0; rows = e .1 }, λ fits. turned-after t g fk ns (c .turn .ensures _ _ (e .2 fits)))
 
 pub reapply-necessity-after-possibility-spec : {M : Type 1} → statement M
-reapply-necessity-after-possibility-spec =
-    tie.close
-    (tie.spec
-    Inv-loop
-    μ-loop
-    loop-holds
-    returns
-    (search needs)
-    (search needs)
-    (search needs)
-    (search needs)
-    (search needs)
-    loop-again
-    (search needs)
-    returns-2)
+reapply-necessity-after-possibility-spec = tie.close (tie.spec Inv-loop μ-loop loop-holds returns (search needs) (search needs) (search needs) (search needs) (search needs) loop-again (search needs) returns-2)

@@ -20,5 +20,4 @@ returns c = λ s q formulas edges waiting classes b.
     fresh-as s _ f (c .before .before .before .before .world-of .ensures t (record { fits = b .fits; laid = b .laid })) (c .store .ensures (s .necessities) _ (b .necessities) (b .room) th (tf .0) (tf .1))
 
 pub store-necessity-spec : {M : Type 1} → statement M
-store-necessity-spec =
-    tie.close (tie.spec (search needs) (search needs) (search needs) returns)
+store-necessity-spec = tie.close (tie.spec (search needs) (search needs) (search needs) returns)

@@ -19,5 +19,4 @@ returns-2 c = λ t r count fits laid long some.
     c .worlds-on-paths .ensures .0 t _ (stands t [] count (held-as (t ++ []) (sym (append-nil t)) (held fits count laid)) fits) (lv .0) (lv .1) (leaves-low t r count fits) long
 
 pub worlds-at-fork-spec : {M : Type 1} → statement M
-worlds-at-fork-spec =
-    tie.close (tie.spec returns (search needs) (search needs) returns-2)
+worlds-at-fork-spec = tie.close (tie.spec returns (search needs) (search needs) returns-2)

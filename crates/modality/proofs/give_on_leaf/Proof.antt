@@ -43,16 +43,4 @@ returns : tie.Need-returns Inv-loop μ-loop
 returns c = (c .before .loop .inv .1, λ ns p has h. make-end (c .before .loop .inv .2 ns p has h) (c .loop-test .left))
 
 pub give-on-leaf-spec : {M : Type 1} → statement M
-give-on-leaf-spec =
-    tie.close
-    (tie.spec
-    Inv-loop
-    μ-loop
-    (search needs)
-    loop-holds
-    (search needs)
-    (search needs)
-    (search needs)
-    loop-less
-    loop-again
-    returns)
+give-on-leaf-spec = tie.close (tie.spec Inv-loop μ-loop (search needs) loop-holds (search needs) (search needs) (search needs) loop-less loop-again returns)

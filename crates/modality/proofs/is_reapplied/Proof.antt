@@ -18,14 +18,4 @@ returns-4 : tie.Need-returns-4
 returns-4 c = λ t k n r h e f d. fork-loose t r k n h e f (c .before .is-placed-before .ensures t d) (c .if1 .left)
 
 pub is-reapplied-spec : {M : Type 1} → statement M
-is-reapplied-spec =
-    tie.close
-    (tie.spec
-    (search needs)
-    (search needs)
-    (search needs)
-    returns
-    (search needs)
-    returns-2
-    returns-3
-    returns-4)
+is-reapplied-spec = tie.close (tie.spec (search needs) (search needs) (search needs) returns (search needs) returns-2 returns-3 returns-4)

@@ -33,16 +33,4 @@ returns : tie.Need-returns Inv-loop μ-loop
 returns c = λ t s ls l d r a h p. fill-end (through t s) ls l (c .before .loop .j) (omega (arith, listed-count a h, c .loop-test .left)) (c .before .loop .inv .1 t s ls l d r a h p)
 
 pub leaves-of-spec : {M : Type 1} → statement M
-leaves-of-spec =
-    tie.close
-    (tie.spec
-    Inv-loop
-    μ-loop
-    loop-holds
-    (search needs)
-    (search needs)
-    (search needs)
-    (search needs)
-    (search needs)
-    loop-again
-    returns)
+leaves-of-spec = tie.close (tie.spec Inv-loop μ-loop loop-holds (search needs) (search needs) (search needs) (search needs) (search needs) loop-again returns)

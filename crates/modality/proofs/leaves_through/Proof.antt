@@ -11,5 +11,4 @@ returns-2 : tie.Need-returns-2
 returns-2 c = λ t r d l. through-none r d _ (c .before .is-placed-before .ensures t d) (c .if1 .left) l
 
 pub leaves-through-spec : {M : Type 1} → statement M
-leaves-through-spec =
-    tie.close (tie.spec (search needs) (search needs) returns returns-2)
+leaves-through-spec = tie.close (tie.spec (search needs) (search needs) returns returns-2)

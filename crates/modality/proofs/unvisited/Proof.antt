@@ -47,22 +47,4 @@ returns-3 : tie.Need-returns-3 Inv-loop μ-loop
 returns-3 c = λ g n e d r. marks-all (fresh g _ (n .visited)) _ _ _ (omega (arith, c .before .before .before .if1 .left)) (c .loop-test .left) (c .before .loop .inv .0) (c .before .loop .inv .1 g n e d r) ∙ unvisited-by g n _ _ e (d .count)
 
 pub unvisited-spec : {M : Type 1} → statement M
-unvisited-spec =
-    tie.close
-    (tie.spec
-    Inv-loop
-    μ-loop
-    (search needs)
-    returns
-    returns-2
-    loop-holds
-    (search needs)
-    (search needs)
-    (search needs)
-    (search needs)
-    (search needs)
-    (search needs)
-    (search needs)
-    (search needs)
-    loop-again
-    returns-3)
+unvisited-spec = tie.close (tie.spec Inv-loop μ-loop (search needs) returns returns-2 loop-holds (search needs) (search needs) (search needs) (search needs) (search needs) (search needs) (search needs) (search needs) loop-again returns-3)

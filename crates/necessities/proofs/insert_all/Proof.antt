@@ -30,19 +30,4 @@ returns-2 : tie.Need-returns-2 Inv-loop μ-loop
 returns-2 c = λ l p h e. insert-end _ _ (c .loop-test .left) p h (c .before .loop .inv .1 l p h e)
 
 pub insert-all-spec : {M : Type 1} → statement M
-insert-all-spec =
-    tie.close
-    (tie.spec
-    Inv-loop
-    μ-loop
-    returns
-    loop-holds
-    (search needs)
-    (search needs)
-    (search needs)
-    (search needs)
-    (search needs)
-    (search needs)
-    (search needs)
-    loop-again
-    returns-2)
+insert-all-spec = tie.close (tie.spec Inv-loop μ-loop returns loop-holds (search needs) (search needs) (search needs) (search needs) (search needs) (search needs) (search needs) loop-again returns-2)

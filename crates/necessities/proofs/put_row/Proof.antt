@@ -15,31 +15,4 @@ returns-2 : tie.Need-returns-2
 returns-2 c = λ h. let a = c .before .before .before .before .args in stored-sets ((a .formula .0) ∷ (a .world .0) ∷ (a .spawner .0) ∷ 0 ∷ (a .k) ∷ []) (now (a .necessities)) (a .k * necessityFields)
 
 pub put-row-spec : {M : Type 1} → statement M
-put-row-spec =
-    tie.close
-    (tie.spec
-    returns
-    (search needs)
-    (search needs)
-    (search needs)
-    (search needs)
-    (search needs)
-    (search needs)
-    (search needs)
-    (search needs)
-    (search needs)
-    (search needs)
-    (search needs)
-    (search needs)
-    (search needs)
-    (search needs)
-    (search needs)
-    (search needs)
-    (search needs)
-    (search needs)
-    (search needs)
-    (search needs)
-    (search needs)
-    (search needs)
-    (search needs)
-    returns-2)
+put-row-spec = tie.close (tie.spec returns (search needs) (search needs) (search needs) (search needs) (search needs) (search needs) (search needs) (search needs) (search needs) (search needs) (search needs) (search needs) (search needs) (search needs) (search needs) (search needs) (search needs) (search needs) (search needs) (search needs) (search needs) (search needs) (search needs) returns-2)

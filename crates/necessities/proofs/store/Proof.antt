@@ -11,6 +11,4 @@ returns-2 : tie.Need-returns-2
 returns-2 c = λ ns l s h p n small. stack-store _ _ _ (search needs) (search needs) (search needs) s h (c .before .before .before .before .put-row .ensures) (c .before .before .clear-row .ensures) (c .insert-all .ensures l p n small)
 
 pub store-spec : {M : Type 1} → statement M
-store-spec =
-    tie.close
-    (tie.spec returns (search needs) (search needs) (search needs) (search needs) returns-2)
+store-spec = tie.close (tie.spec returns (search needs) (search needs) (search needs) (search needs) returns-2)

@@ -29,27 +29,4 @@ returns-2 : tie.Need-returns-2 Inv-loop μ-loop
 returns-2 c = λ ns l s. let t = c .before .loop .inv .1 (s .long) in stack-turn s (t .long) (turn-end _ _ (c .loop-test .left) (c .before .loop .inv .0) t)
 
 pub turn-spec : {M : Type 1} → statement M
-turn-spec =
-    tie.close
-    (tie.spec
-    Inv-loop
-    μ-loop
-    returns
-    (search needs)
-    loop-holds
-    (search needs)
-    (search needs)
-    (search needs)
-    (search needs)
-    (search needs)
-    (search needs)
-    (search needs)
-    (search needs)
-    (search needs)
-    (search needs)
-    (search needs)
-    (search needs)
-    (search needs)
-    (search needs)
-    loop-again
-    returns-2)
+turn-spec = tie.close (tie.spec Inv-loop μ-loop returns (search needs) loop-holds (search needs) (search needs) (search needs) (search needs) (search needs) (search needs) (search needs) (search needs) (search needs) (search needs) (search needs) (search needs) (search needs) (search needs) loop-again returns-2)

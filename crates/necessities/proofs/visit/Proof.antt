@@ -11,15 +11,4 @@ returns-2 : tie.Need-returns-2
 returns-2 c = λ ns count i l none s e. stack-visit i _ _ _ none s e (c .union .ensures)
 
 pub visit-spec : {M : Type 1} → statement M
-visit-spec =
-    tie.close
-    (tie.spec
-    returns
-    (search needs)
-    (search needs)
-    (search needs)
-    (search needs)
-    (search needs)
-    (search needs)
-    (search needs)
-    returns-2)
+visit-spec = tie.close (tie.spec returns (search needs) (search needs) (search needs) (search needs) (search needs) (search needs) (search needs) returns-2)

@@ -30,27 +30,4 @@ returns-7 : tie.Need-returns-7
 returns-7 c = (c .append-here5 .ensures .0, λ s recs q formulas classes b. after-here _ s _ recs q _ (rw (c .before .before .before .enum-told5 .given .1) tt) (c .append-here5 .ensures .1 s recs q _ _ _ _ _ b))
 
 pub apply-spec : {M : Type 1} → statement M
-apply-spec =
-    tie.close
-    (tie.spec
-    (search needs)
-    (search needs)
-    (search needs)
-    (search needs)
-    (search needs)
-    (search needs)
-    (search needs)
-    (search needs)
-    (search needs)
-    (search needs)
-    (search needs)
-    (search needs)
-    (search needs)
-    (search needs)
-    returns
-    returns-2
-    returns-3
-    returns-4
-    returns-5
-    returns-6
-    returns-7)
+apply-spec = tie.close (tie.spec (search needs) (search needs) (search needs) (search needs) (search needs) (search needs) (search needs) (search needs) (search needs) (search needs) (search needs) (search needs) (search needs) (search needs) returns returns-2 returns-3 returns-4 returns-5 returns-6 returns-7)

@@ -29,19 +29,4 @@ returns-3 c = λ s reached kp.
     (stepped _ s _ (t .0) d (t .1) (expands-as f (c .before .before .before .before .before .before .before .before .before .before .before .before .before .before .before .expand .ensures (s .formulas) (l .formulas))) refl (c .before .before .before .before .before .before .before .before .before .before .before .before .before .before .next-step .ensures) (applied .0) (applied .1 s _ (t .0) _ _ (due-before d waiting)) (t .2) classes (c .before .before .before .classify .ensures) (c .check .ensures))
 
 pub step-spec : {M : Type 1} → statement M
-step-spec =
-    tie.close
-    (tie.spec
-    (search needs)
-    returns
-    (search needs)
-    (search needs)
-    (search needs)
-    (search needs)
-    (search needs)
-    (search needs)
-    (search needs)
-    (search needs)
-    (search needs)
-    returns-2
-    returns-3)
+step-spec = tie.close (tie.spec (search needs) returns (search needs) (search needs) (search needs) (search needs) (search needs) (search needs) (search needs) (search needs) (search needs) returns-2 returns-3)

@@ -16,12 +16,4 @@ returns c = λ edges necessities leaves small some few f t w k g n.
     (λ fits new laid. c .begin .ensures (begun rs) _ _ _ _ _ fits new laid)
 
 pub begin-spec : {M : Type 1} → statement M
-begin-spec =
-    tie.close
-    (tie.spec
-    (search needs)
-    (search needs)
-    (search needs)
-    (search needs)
-    (search needs)
-    returns)
+begin-spec = tie.close (tie.spec (search needs) (search needs) (search needs) (search needs) (search needs) returns)

@@ -23,24 +23,4 @@ returns-2 c = λ F s necessities leaves waiting classes k e z.
     (c .before .before .before .narrow .ensures) (c .before .before .narrow2 .ensures) (c .before .narrow3 .ensures) (c .narrow4 .ensures)
 
 pub finish-spec : {M : Type 1} → statement M
-finish-spec =
-    tie.close
-    (tie.spec
-    (search needs)
-    (search needs)
-    (search needs)
-    (search needs)
-    (search needs)
-    (search needs)
-    returns
-    (search needs)
-    (search needs)
-    (search needs)
-    (search needs)
-    (search needs)
-    (search needs)
-    (search needs)
-    (search needs)
-    (search needs)
-    (search needs)
-    returns-2)
+finish-spec = tie.close (tie.spec (search needs) (search needs) (search needs) (search needs) (search needs) (search needs) returns (search needs) (search needs) (search needs) (search needs) (search needs) (search needs) (search needs) (search needs) (search needs) (search needs) returns-2)

@@ -14,15 +14,4 @@ returns-2 : tie.Need-returns-2
 returns-2 c = c .before .before .before .before .before .before .run .ensures (sym (c .before .before .before .before .before .before .before .before .before .before .before .before .check .ensures) ∙ ap checkOf (c .before .before .before .before .before .before .before .before .before .before .enum-told .given .1))
 
 pub prove-spec : {M : Type 1} → statement M
-prove-spec =
-    tie.close
-    (tie.spec
-    (search needs)
-    (search needs)
-    (search needs)
-    (search needs)
-    returns
-    (search needs)
-    (search needs)
-    (search needs)
-    returns-2)
+prove-spec = tie.close (tie.spec (search needs) (search needs) (search needs) (search needs) returns (search needs) (search needs) (search needs) returns-2)

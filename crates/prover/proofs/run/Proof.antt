@@ -16,14 +16,4 @@ returns c = λ e.
     (c .before .before .before .before .before .before .before .before .before .before .before .before .before .prove .ensures _) (c .before .before .before .before .before .before .finish .ensures _ _ _ _ _ _)
 
 pub run-spec : {M : Type 1} → statement M
-run-spec =
-    tie.close
-    (tie.spec
-    (search needs)
-    (search needs)
-    (search needs)
-    (search needs)
-    (search needs)
-    (search needs)
-    (search needs)
-    returns)
+run-spec = tie.close (tie.spec (search needs) (search needs) (search needs) (search needs) (search needs) (search needs) (search needs) returns)

@@ -7,6 +7,4 @@ returns : tie.Need-returns
 returns c = contract-as (c .before .before .before .before .before .before .before .prove .ensures) (c .word .ensures)
 
 pub wozhnerk-prove-spec : {M : Type 1} → statement M
-wozhnerk-prove-spec =
-    tie.close
-    (tie.spec (search needs) (search needs) (search needs) (search needs) (search needs) returns)
+wozhnerk-prove-spec = tie.close (tie.spec (search needs) (search needs) (search needs) (search needs) (search needs) returns)

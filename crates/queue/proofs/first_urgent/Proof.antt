@@ -45,21 +45,4 @@ returns-2 : tie.Need-returns-2 Inv-loop μ-loop Inv-classes μ-classes
 returns-2 c = λ F rs ns q l g. search-hit F rs ns q l g _ _ _ (c .before .before .loop-test .taken) (c .before .before .before .loop .inv .1 F rs ns q l g) (c .before .nth .ensures .0) (c .if2 .taken)
 
 pub first-urgent-spec : {M : Type 1} → statement M
-first-urgent-spec =
-    tie.close
-    (tie.spec
-    Inv-loop
-    μ-loop
-    Inv-classes
-    μ-classes
-    classes-holds
-    loop-holds
-    (search needs)
-    (search needs)
-    (search needs)
-    loop-again
-    (search needs)
-    (search needs)
-    classes-again
-    returns
-    returns-2)
+first-urgent-spec = tie.close (tie.spec Inv-loop μ-loop Inv-classes μ-classes classes-holds loop-holds (search needs) (search needs) (search needs) loop-again (search needs) (search needs) classes-again returns returns-2)

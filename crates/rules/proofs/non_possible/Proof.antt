@@ -10,11 +10,4 @@ unfolding nonExpansion
 returns c = λ rs q h. expands-two _ h _ (c .before .before .before .before .before .next-formula .ensures .0) (c .before .before .before .non .ensures) _ (c .before .before .next-formula2 .ensures .0) (c .necessary .ensures) (λ m. rw m refl) (λ m s. rw s refl)
 
 pub non-possible-spec : {M : Type 1} → statement M
-non-possible-spec =
-    tie.close
-    (tie.spec
-    (search needs)
-    (search needs)
-    (search needs)
-    (search needs)
-    returns)
+non-possible-spec = tie.close (tie.spec (search needs) (search needs) (search needs) (search needs) returns)

@@ -10,6 +10,4 @@ unfolding nonExpansion
 returns c = λ rs h. expands-two _ h _ (c .before .before .before .before .before .next-formula .ensures .0) (c .before .before .before .imply .ensures) _ (c .before .before .next-formula2 .ensures .0) (c .non .ensures) (λ m. rw m refl) (λ m s. rw s refl)
 
 pub non-strict-imply-spec : {M : Type 1} → statement M
-non-strict-imply-spec =
-    tie.close
-    (tie.spec (search needs) (search needs) (search needs) (search needs) returns)
+non-strict-imply-spec = tie.close (tie.spec (search needs) (search needs) (search needs) (search needs) returns)

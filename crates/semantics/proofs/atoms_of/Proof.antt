@@ -31,18 +31,4 @@ returns-4 c = λ rs p h.
     (one-atom rs _ _ (c .before .before .before .kind-at3 .ensures rs p h) _ (c .before .before .if3 .left) (c .left-at3 .ensures rs p h)))
 
 pub atoms-of-spec : {M : Type 1} → statement M
-atoms-of-spec =
-    tie.close
-    (tie.spec
-    (search needs)
-    (search needs)
-    returns
-    (search needs)
-    (search needs)
-    returns-2
-    (search needs)
-    (search needs)
-    returns-3
-    (search needs)
-    (search needs)
-    returns-4)
+atoms-of-spec = tie.close (tie.spec (search needs) (search needs) returns (search needs) (search needs) returns-2 (search needs) (search needs) returns-3 (search needs) (search needs) returns-4)

@@ -12,5 +12,4 @@ returns-2 c = λ rs p h. denied-inner rs _ _ (c .before .before .before .kind-at
     (c .before .left-at .ensures rs p h) (c .atoms-of .ensures rs p h) ∙ sym (denied-formula p h _)
 
 pub denied-spec : {M : Type 1} → statement M
-denied-spec =
-    tie.close (tie.spec (search needs) returns (search needs) (search needs) returns-2)
+denied-spec = tie.close (tie.spec (search needs) returns (search needs) (search needs) returns-2)

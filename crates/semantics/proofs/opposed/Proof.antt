@@ -32,23 +32,4 @@ returns-8 : tie.Need-returns-8
 returns-8 c = rw (c .before .before .before .before .before .p2 .given .1, c .before .before .q2 .given .1) (pair-differs _ _ _ _ (c .if1 .left))
 
 pub opposed-spec : {M : Type 1} → statement M
-opposed-spec =
-    tie.close
-    (tie.spec
-    (search needs)
-    (search needs)
-    (search needs)
-    (search needs)
-    (search needs)
-    (search needs)
-    (search needs)
-    (search needs)
-    (search needs)
-    returns
-    returns-2
-    returns-3
-    returns-4
-    returns-5
-    returns-6
-    returns-7
-    returns-8)
+opposed-spec = tie.close (tie.spec (search needs) (search needs) (search needs) (search needs) (search needs) (search needs) (search needs) (search needs) (search needs) returns returns-2 returns-3 returns-4 returns-5 returns-6 returns-7 returns-8)

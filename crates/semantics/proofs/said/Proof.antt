@@ -22,16 +22,4 @@ returns-3 c = λ rs p h.
     ∙ sym (said-formula p h _)
 
 pub said-spec : {M : Type 1} → statement M
-said-spec =
-    tie.close
-    (tie.spec
-    (search needs)
-    (search needs)
-    returns
-    (search needs)
-    (search needs)
-    (search needs)
-    returns-2
-    (search needs)
-    (search needs)
-    returns-3)
+said-spec = tie.close (tie.spec (search needs) (search needs) returns (search needs) (search needs) (search needs) returns-2 (search needs) (search needs) returns-3)

@@ -29,15 +29,4 @@ unfolding filled
 returns-2 c = between-end (c .before .loop .inv) (c .loop-test .left)
 
 pub all-spec : {M : Type 1} → statement M
-all-spec =
-    tie.close
-    (tie.spec
-    Inv-loop
-    μ-loop
-    loop-holds
-    (search needs)
-    returns
-    (search needs)
-    (search needs)
-    loop-again
-    returns-2)
+all-spec = tie.close (tie.spec Inv-loop μ-loop loop-holds (search needs) returns (search needs) (search needs) loop-again returns-2)

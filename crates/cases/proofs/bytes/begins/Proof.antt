@@ -29,16 +29,4 @@ unfolding beginsWith
 returns-2 c = between-end (c .before .loop .inv) (c .loop-test .left)
 
 pub begins-spec : {M : Type 1} → statement M
-begins-spec =
-    tie.close
-    (tie.spec
-    Inv-loop
-    μ-loop
-    loop-holds
-    (search needs)
-    (search needs)
-    returns
-    (search needs)
-    (search needs)
-    loop-again
-    returns-2)
+begins-spec = tie.close (tie.spec Inv-loop μ-loop loop-holds (search needs) (search needs) returns (search needs) (search needs) loop-again returns-2)

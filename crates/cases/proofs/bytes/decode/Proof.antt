@@ -37,28 +37,4 @@ returns-3 : tie.Need-returns-3 Inv-loop μ-loop
 returns-3 c = decoding-end (c .before .loop .inv) (inl (c .loop-test .left))
 
 pub decode-spec : {M : Type 1} → statement M
-decode-spec =
-    tie.close
-    (tie.spec
-    Inv-loop
-    μ-loop
-    loop-holds
-    same-length
-    returns
-    (search needs)
-    (search needs)
-    (search needs)
-    (search needs)
-    (search needs)
-    same-length-2
-    returns-2
-    (search needs)
-    (search needs)
-    (search needs)
-    (search needs)
-    (search needs)
-    (search needs)
-    (search needs)
-    loop-again
-    same-length-3
-    returns-3)
+decode-spec = tie.close (tie.spec Inv-loop μ-loop loop-holds same-length returns (search needs) (search needs) (search needs) (search needs) (search needs) same-length-2 returns-2 (search needs) (search needs) (search needs) (search needs) (search needs) (search needs) (search needs) loop-again same-length-3 returns-3)

@@ -25,15 +25,4 @@ returns-2 : tie.Need-returns-2 Inv-loop μ-loop
 returns-2 c = ending-end (c .before .loop .inv) (c .loop-test .left)
 
 pub end-of-spec : {M : Type 1} → statement M
-end-of-spec =
-    tie.close
-    (tie.spec
-    Inv-loop
-    μ-loop
-    loop-holds
-    (search needs)
-    returns
-    (search needs)
-    (search needs)
-    loop-again
-    returns-2)
+end-of-spec = tie.close (tie.spec Inv-loop μ-loop loop-holds (search needs) returns (search needs) (search needs) loop-again returns-2)

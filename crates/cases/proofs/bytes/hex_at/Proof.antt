@@ -34,20 +34,4 @@ returns-3 : tie.Need-returns-3 Inv-loop μ-loop
 returns-3 c = hexing-end (c .before .loop .inv) (c .loop-test .left)
 
 pub hex-at-spec : {M : Type 1} → statement M
-hex-at-spec =
-    tie.close
-    (tie.spec
-    Inv-loop
-    μ-loop
-    loop-holds
-    returns
-    (search needs)
-    (search needs)
-    returns-2
-    mul-n
-    add-n
-    (search needs)
-    (search needs)
-    (search needs)
-    loop-again
-    returns-3)
+hex-at-spec = tie.close (tie.spec Inv-loop μ-loop loop-holds returns (search needs) (search needs) returns-2 mul-n add-n (search needs) (search needs) (search needs) loop-again returns-3)

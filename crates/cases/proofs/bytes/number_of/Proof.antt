@@ -30,22 +30,4 @@ returns-4 : tie.Need-returns-4 Inv-loop μ-loop
 returns-4 c = number-some _ _ _ _ (c .before .before .before .before .start-of .ensures) (c .before .before .before .end-of .ensures) (c .before .before .if1 .left) (summing-end (c .before .loop .inv) (c .loop-test .left))
 
 pub number-of-spec : {M : Type 1} → statement M
-number-of-spec =
-    tie.close
-    (tie.spec
-    Inv-loop
-    μ-loop
-    (search needs)
-    (search needs)
-    returns
-    loop-holds
-    (search needs)
-    (search needs)
-    returns-2
-    returns-3
-    (search needs)
-    (search needs)
-    (search needs)
-    (search needs)
-    loop-again
-    returns-4)
+number-of-spec = tie.close (tie.spec Inv-loop μ-loop (search needs) (search needs) returns loop-holds (search needs) (search needs) returns-2 returns-3 (search needs) (search needs) (search needs) (search needs) loop-again returns-4)

@@ -26,16 +26,4 @@ returns-2 : tie.Need-returns-2 Inv-loop μ-loop
 returns-2 c = starting-end (c .before .loop .inv) (c .loop-test .left)
 
 pub start-of-spec : {M : Type 1} → statement M
-start-of-spec =
-    tie.close
-    (tie.spec
-    Inv-loop
-    μ-loop
-    loop-holds
-    returns
-    (search needs)
-    (search needs)
-    (search needs)
-    (search needs)
-    loop-again
-    returns-2)
+start-of-spec = tie.close (tie.spec Inv-loop μ-loop loop-holds returns (search needs) (search needs) (search needs) (search needs) loop-again returns-2)

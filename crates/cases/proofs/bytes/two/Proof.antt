@@ -15,15 +15,4 @@ unfolding twoAt
 returns-2 c = (rw (List·getD-eq-default (c .before .before .args .s .now) 0 (c .if1 .left), List·getD-eq-default (c .before .before .args .s .now) 0 {n = c .before .before .args .i + 1} (omega arith)), omega arith)
 
 pub two-spec : {M : Type 1} → statement M
-two-spec =
-    tie.close
-    (tie.spec
-    (search needs)
-    (search needs)
-    (search needs)
-    (search needs)
-    (search needs)
-    (search needs)
-    (search needs)
-    returns
-    returns-2)
+two-spec = tie.close (tie.spec (search needs) (search needs) (search needs) (search needs) (search needs) (search needs) (search needs) returns returns-2)

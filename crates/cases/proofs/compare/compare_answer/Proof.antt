@@ -16,21 +16,4 @@ returns-3 : tie.Need-returns-3
 returns-3 c = verdict-differs _ _ _ _ (c .before .before .before .before .before .answer2 .given .1) (c .before .before .before .compare-verdict .ensures) (then-trays (c .before .enum-told .given .1) (c .compare-trays .ensures))
 
 pub compare-answer-spec : {M : Type 1} → statement M
-compare-answer-spec =
-    tie.close
-    (tie.spec
-    (search needs)
-    (search needs)
-    (search needs)
-    (search needs)
-    (search needs)
-    (search needs)
-    (search needs)
-    (search needs)
-    returns
-    (search needs)
-    (search needs)
-    (search needs)
-    (search needs)
-    returns-2
-    returns-3)
+compare-answer-spec = tie.close (tie.spec (search needs) (search needs) (search needs) (search needs) (search needs) (search needs) (search needs) (search needs) returns (search needs) (search needs) (search needs) (search needs) returns-2 returns-3)

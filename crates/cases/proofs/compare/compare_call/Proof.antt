@@ -9,15 +9,4 @@ unfolding lentTrays
 returns c = call-differs _ _ _ _ _ (c .before .before .before .before .before .before .before .prove .ensures) (c .compare-answer .ensures)
 
 pub compare-call-spec : {M : Type 1} → statement M
-compare-call-spec =
-    tie.close
-    (tie.spec
-    (search needs)
-    (search needs)
-    (search needs)
-    (search needs)
-    (search needs)
-    (search needs)
-    (search needs)
-    (search needs)
-    returns)
+compare-call-spec = tie.close (tie.spec (search needs) (search needs) (search needs) (search needs) (search needs) (search needs) (search needs) (search needs) returns)

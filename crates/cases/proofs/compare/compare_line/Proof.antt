@@ -24,19 +24,4 @@ returns-3 : tie.Need-returns-3
 returns-3 c = line-differs _ _ _ _ _ _ _ _ (c .before .before .before .before .before .before .before .before .before .before .before .number-of .ensures) (omega (arith, c .before .before .before .before .before .before .before .before .before .before .if1 .left)) (c .before .before .before .before .before .before .before .before .before .start-of .ensures) (c .before .before .before .before .before .before .before .before .end-of .ensures) (length-replicate {A = ℕ} 2048 0) (c .before .before .before .before .before .before .decode .ensures .0) (c .before .before .before .before .before .before .decode .ensures .1) (c .before .before .read-line .ensures) (c .compare-call .ensures)
 
 pub compare-line-spec : {M : Type 1} → statement M
-compare-line-spec =
-    tie.close
-    (tie.spec
-    (search needs)
-    returns
-    (search needs)
-    (search needs)
-    (search needs)
-    (search needs)
-    (search needs)
-    returns-2
-    (search needs)
-    slice-aggregate-compare-call
-    (search needs)
-    (search needs)
-    returns-3)
+compare-line-spec = tie.close (tie.spec (search needs) returns (search needs) (search needs) (search needs) (search needs) (search needs) returns-2 (search needs) slice-aggregate-compare-call (search needs) (search needs) returns-3)

@@ -20,14 +20,4 @@ unfolding traysDiffer
 returns-4 c = rw (← c .before .nodes-agree .ensures, c .if1 .left)
 
 pub compare-trays-spec : {M : Type 1} → statement M
-compare-trays-spec =
-    tie.close
-    (tie.spec
-    (search needs)
-    (search needs)
-    (search needs)
-    (search needs)
-    returns
-    returns-2
-    returns-3
-    returns-4)
+compare-trays-spec = tie.close (tie.spec (search needs) (search needs) (search needs) (search needs) returns returns-2 returns-3 returns-4)

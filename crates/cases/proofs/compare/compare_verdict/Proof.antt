@@ -13,5 +13,4 @@ unfolding verdictDiffers
 returns-2 c = rw (← c .before .before .before .letter .ensures, eq-eqb _ _ (c .before .if1 .left)) (c .compare-counts .ensures)
 
 pub compare-verdict-spec : {M : Type 1} → statement M
-compare-verdict-spec =
-    tie.close (tie.spec (search needs) returns (search needs) returns-2)
+compare-verdict-spec = tie.close (tie.spec (search needs) returns (search needs) returns-2)

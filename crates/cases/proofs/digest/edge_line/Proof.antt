@@ -10,6 +10,4 @@ returns-2 : tie.Need-returns-2
 returns-2 c = no-edge _ _ _ _ (c .if1 .left)
 
 pub edge-line-spec : {M : Type 1} → statement M
-edge-line-spec =
-    tie.close
-    (tie.spec (search needs) (search needs) (search needs) (search needs) returns returns-2)
+edge-line-spec = tie.close (tie.spec (search needs) (search needs) (search needs) (search needs) returns returns-2)

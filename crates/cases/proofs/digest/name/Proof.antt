@@ -10,6 +10,4 @@ returns-2 : tie.Need-returns-2
 returns-2 c = letter-name _ _ (c .before .before .if1 .left) (c .before .letter .ensures) (c .add2 .ensures)
 
 pub name-spec : {M : Type 1} → statement M
-name-spec =
-    tie.close
-    (tie.spec (search needs) (search needs) returns (search needs) (search needs) returns-2)
+name-spec = tie.close (tie.spec (search needs) (search needs) returns (search needs) (search needs) returns-2)

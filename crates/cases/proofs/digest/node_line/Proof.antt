@@ -13,21 +13,4 @@ returns-2 c =
     (c .before .before .before .before .two .ensures .0) (c .before .before .before .formula-or-comment .ensures) (c .before .before .add .ensures) (c .before .link2 .ensures) (c .link3 .ensures)
 
 pub node-line-spec : {M : Type 1} → statement M
-node-line-spec =
-    tie.close
-    (tie.spec
-    returns
-    (search needs)
-    (search needs)
-    (search needs)
-    (search needs)
-    (search needs)
-    (search needs)
-    (search needs)
-    (search needs)
-    (search needs)
-    (search needs)
-    (search needs)
-    (search needs)
-    (search needs)
-    returns-2)
+node-line-spec = tie.close (tie.spec returns (search needs) (search needs) (search needs) (search needs) (search needs) (search needs) (search needs) (search needs) (search needs) (search needs) (search needs) (search needs) (search needs) returns-2)

@@ -26,16 +26,4 @@ returns-2 : tie.Need-returns-2 Inv-loop μ-loop
 returns-2 c = nodes-end _ _ _ _ (omega (arith, c .loop-test .left)) (c .before .loop .inv)
 
 pub node-lines-spec : {M : Type 1} → statement M
-node-lines-spec =
-    tie.close
-    (tie.spec
-    Inv-loop
-    μ-loop
-    loop-holds
-    returns
-    (search needs)
-    (search needs)
-    (search needs)
-    (search needs)
-    loop-again
-    returns-2)
+node-lines-spec = tie.close (tie.spec Inv-loop μ-loop loop-holds returns (search needs) (search needs) (search needs) (search needs) loop-again returns-2)

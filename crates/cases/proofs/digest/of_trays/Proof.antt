@@ -27,18 +27,4 @@ returns-2 : tie.Need-returns-2 Inv-loop μ-loop
 returns-2 c = worlds-end _ _ _ _ _ (c .before .before .node-lines .ensures) (omega (arith, c .loop-test .left)) (c .before .loop .inv)
 
 pub of-trays-spec : {M : Type 1} → statement M
-of-trays-spec =
-    tie.close
-    (tie.spec
-    Inv-loop
-    μ-loop
-    (search needs)
-    loop-holds
-    returns
-    (search needs)
-    (search needs)
-    (search needs)
-    (search needs)
-    (search needs)
-    loop-again
-    returns-2)
+of-trays-spec = tie.close (tie.spec Inv-loop μ-loop (search needs) loop-holds returns (search needs) (search needs) (search needs) (search needs) (search needs) loop-again returns-2)

@@ -21,6 +21,4 @@ returns : tie.Need-returns Inv-loop μ-loop
 returns c = row-end (c .loop-test .left) (c .before .loop .inv)
 
 pub row-spec : {M : Type 1} → statement M
-row-spec =
-    tie.close
-    (tie.spec Inv-loop μ-loop loop-holds (search needs) (search needs) (search needs) loop-again returns)
+row-spec = tie.close (tie.spec Inv-loop μ-loop loop-holds (search needs) (search needs) (search needs) loop-again returns)

@@ -30,17 +30,4 @@ unfolding areMade
 returns-2 c = between-end (c .before .loop .inv) (c .loop-test .left)
 
 pub are-made-spec : {M : Type 1} → statement M
-are-made-spec =
-    tie.close
-    (tie.spec
-    Inv-loop
-    μ-loop
-    loop-holds
-    (search needs)
-    (search needs)
-    (search needs)
-    returns
-    (search needs)
-    (search needs)
-    loop-again
-    returns-2)
+are-made-spec = tie.close (tie.spec Inv-loop μ-loop loop-holds (search needs) (search needs) (search needs) returns (search needs) (search needs) loop-again returns-2)

@@ -30,16 +30,4 @@ unfolding areMarked
 returns-2 c = between-end (c .before .loop .inv) (c .loop-test .left)
 
 pub are-marked-spec : {M : Type 1} → statement M
-are-marked-spec =
-    tie.close
-    (tie.spec
-    Inv-loop
-    μ-loop
-    loop-holds
-    (search needs)
-    (search needs)
-    returns
-    (search needs)
-    (search needs)
-    loop-again
-    returns-2)
+are-marked-spec = tie.close (tie.spec Inv-loop μ-loop loop-holds (search needs) (search needs) returns (search needs) (search needs) loop-again returns-2)

@@ -17,12 +17,4 @@ unfolding areZero
 returns-3 c = rw (← c .before .before .before .before .is-ended .ensures, not-false (c .before .before .before .before .is-ended .result) (c .before .before .before .if1 .left), ← c .before .before .is-ended2 .ensures, not-false (c .before .before .is-ended2 .result) (c .before .if2 .left)) (c .edges-agree .ensures)
 
 pub are-zero-spec : {M : Type 1} → statement M
-are-zero-spec =
-    tie.close
-    (tie.spec
-    (search needs)
-    returns
-    (search needs)
-    returns-2
-    (search needs)
-    returns-3)
+are-zero-spec = tie.close (tie.spec (search needs) returns (search needs) returns-2 (search needs) returns-3)

@@ -30,17 +30,4 @@ unfolding edgesAgree
 returns-2 c = between-end (c .before .loop .inv) (c .loop-test .left)
 
 pub edges-agree-spec : {M : Type 1} → statement M
-edges-agree-spec =
-    tie.close
-    (tie.spec
-    Inv-loop
-    μ-loop
-    loop-holds
-    (search needs)
-    (search needs)
-    (search needs)
-    returns
-    (search needs)
-    (search needs)
-    loop-again
-    returns-2)
+edges-agree-spec = tie.close (tie.spec Inv-loop μ-loop loop-holds (search needs) (search needs) (search needs) returns (search needs) (search needs) loop-again returns-2)

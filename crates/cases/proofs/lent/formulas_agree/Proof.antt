@@ -21,14 +21,4 @@ unfolding formulasAgree
 returns-4 c = rw (le-leb _ _ (c .before .before .before .before .if1 .left), ← c .before .before .before .begins .ensures, not-false (c .before .before .before .begins .result) (c .before .before .if2 .left), ← c .before .are-made .ensures, c .if3 .left)
 
 pub formulas-agree-spec : {M : Type 1} → statement M
-formulas-agree-spec =
-    tie.close
-    (tie.spec
-    returns
-    (search needs)
-    returns-2
-    (search needs)
-    (search needs)
-    (search needs)
-    returns-3
-    returns-4)
+formulas-agree-spec = tie.close (tie.spec returns (search needs) returns-2 (search needs) (search needs) (search needs) returns-3 returns-4)

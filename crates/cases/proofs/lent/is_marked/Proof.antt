@@ -22,18 +22,4 @@ unfolding isMarked
 returns-4 c = rw (lt-ltb _ _ (c .before .before .before .before .before .if1 .left), read-equal (c .before .before .before .before .byte .ensures) (c .before .before .before .if2 .left), read-unequal (c .before .before .two .ensures .0) (c .before .if3 .left), ← c .byte3 .ensures)
 
 pub is-marked-spec : {M : Type 1} → statement M
-is-marked-spec =
-    tie.close
-    (tie.spec
-    returns
-    (search needs)
-    (search needs)
-    returns-2
-    (search needs)
-    (search needs)
-    (search needs)
-    (search needs)
-    returns-3
-    (search needs)
-    (search needs)
-    returns-4)
+is-marked-spec = tie.close (tie.spec returns (search needs) (search needs) returns-2 (search needs) (search needs) (search needs) (search needs) returns-3 (search needs) (search needs) returns-4)

@@ -17,6 +17,4 @@ unfolding nodesAgree
 returns-3 c = rw (le-leb _ _ (c .before .before .if1 .left), ← c .before .are-marked .ensures, c .if2 .left)
 
 pub nodes-agree-spec : {M : Type 1} → statement M
-nodes-agree-spec =
-    tie.close
-    (tie.spec returns (search needs) (search needs) (search needs) returns-2 returns-3)
+nodes-agree-spec = tie.close (tie.spec returns (search needs) (search needs) (search needs) returns-2 returns-3)

@@ -22,17 +22,4 @@ returns-4 : tie.Need-returns-4
 returns-4 c = λ h. takes-full _ _ _ h (c .before .if2 .left) (c .if3 .left)
 
 pub feed-spec : {M : Type 1} → statement M
-feed-spec =
-    tie.close
-    (tie.spec
-    returns
-    (search needs)
-    slice-aggregate-finish
-    (search needs)
-    (search needs)
-    returns-2
-    (search needs)
-    (search needs)
-    (search needs)
-    returns-3
-    returns-4)
+feed-spec = tie.close (tie.spec returns (search needs) slice-aggregate-finish (search needs) (search needs) returns-2 (search needs) (search needs) (search needs) returns-3 returns-4)

@@ -24,16 +24,4 @@ returns : tie.Need-returns Inv-loop μ-loop
 returns c = takes-end _ _ _ _ _ _ (c .loop-test .left) (c .before .loop .inv .1)
 
 pub feed-all-spec : {M : Type 1} → statement M
-feed-all-spec =
-    tie.close
-    (tie.spec
-    Inv-loop
-    μ-loop
-    loop-holds
-    (search needs)
-    (search needs)
-    (search needs)
-    (search needs)
-    loop-again
-    (search needs)
-    returns)
+feed-all-spec = tie.close (tie.spec Inv-loop μ-loop loop-holds (search needs) (search needs) (search needs) (search needs) loop-again (search needs) returns)

@@ -13,14 +13,4 @@ returns-3 : tie.Need-returns-3
 returns-3 c = finished-case _ _ (c .before .before .before .before .before .before .next .ensures) (c .before .before .before .before .before .if1 .left) (c .before .before .before .if2 .left) (c .before .before .next2 .ensures) (c .before .compare-line .ensures) (c .judge .ensures)
 
 pub finish-spec : {M : Type 1} → statement M
-finish-spec =
-    tie.close
-    (tie.spec
-    (search needs)
-    returns
-    (search needs)
-    returns-2
-    (search needs)
-    (search needs)
-    (search needs)
-    returns-3)
+finish-spec = tie.close (tie.spec (search needs) returns (search needs) returns-2 (search needs) (search needs) (search needs) returns-3)

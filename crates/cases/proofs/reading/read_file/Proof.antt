@@ -26,24 +26,4 @@ returns-3 : tie.Need-returns-3 Inv-loop μ-loop
 returns-3 c = file-broken _ _ _ (c .before .before .before .loop .inv) (c .report2 .ensures)
 
 pub read-file-spec : {M : Type 1} → statement M
-read-file-spec =
-    tie.close
-    (tie.spec
-    Inv-loop
-    μ-loop
-    loop-holds
-    (search needs)
-    (search needs)
-    (search needs)
-    (search needs)
-    (search needs)
-    returns
-    (search needs)
-    returns-2
-    (search needs)
-    (search needs)
-    (search needs)
-    loop-again
-    (search needs)
-    (search needs)
-    returns-3)
+read-file-spec = tie.close (tie.spec Inv-loop μ-loop loop-holds (search needs) (search needs) (search needs) (search needs) (search needs) returns (search needs) returns-2 (search needs) (search needs) (search needs) loop-again (search needs) (search needs) returns-3)

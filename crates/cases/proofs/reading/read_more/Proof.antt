@@ -13,18 +13,4 @@ returns-3 : tie.Need-returns-3
 returns-3 c = λ h. went _ _ (c .before .before .feed-all .ensures h)
 
 pub read-more-spec : {M : Type 1} → statement M
-read-more-spec =
-    tie.close
-    (tie.spec
-    (search needs)
-    (search needs)
-    (search needs)
-    returns
-    returns-2
-    (search needs)
-    (search needs)
-    (search needs)
-    (search needs)
-    (search needs)
-    (search needs)
-    returns-3)
+read-more-spec = tie.close (tie.spec (search needs) (search needs) (search needs) returns returns-2 (search needs) (search needs) (search needs) (search needs) (search needs) (search needs) returns-3)

@@ -22,14 +22,4 @@ unfolding paired
 returns-4 c = λ g k d. rw (sym (c .before .before .before .before .before .before .contains .ensures g k d) ∙ not-false _ (c .before .before .before .before .before .if1 .left), sym (c .before .before .before .before .contains2 .ensures g k d) ∙ not-false _ (c .before .before .before .if2 .left), sym (c .before .before .is .ensures) ∙ not-false _ (c .before .if3 .left), c .is2 .ensures)
 
 pub is-paired-spec : {M : Type 1} → statement M
-is-paired-spec =
-    tie.close
-    (tie.spec
-    (search needs)
-    returns
-    (search needs)
-    returns-2
-    (search needs)
-    returns-3
-    (search needs)
-    returns-4)
+is-paired-spec = tie.close (tie.spec (search needs) returns (search needs) returns-2 (search needs) returns-3 (search needs) returns-4)
