@@ -29,7 +29,7 @@ use std::time::{Duration, Instant};
 use formula::Formula;
 use proof::ProofAlgorithm;
 
-#[link(name = "prover", kind = "static")]
+#[link(name = "wozhnerk", kind = "static")]
 unsafe extern "C"
 {
     fn wozhnerk_prove(branch : *const u8, branch_length : usize, flags : u8, nodes : *mut u8, nodes_length : usize,

@@ -1,5 +1,5 @@
 /* The exported function on input lines `FLAGS HEX`, so many calls for each line; for bench/profile.
- *     cc -O2 -Iinclude bench/calls.c target/staticlib/libprover.a -o calls && ./calls COUNT < lines
+ *     cc -O2 -Iinclude bench/calls.c target/staticlib/libwozhnerk.a -o calls && ./calls COUNT < lines
  */
 #define _POSIX_C_SOURCE 200809L
 #include <stdio.h>

@@ -1,4 +1,4 @@
-/* The tableau prover for C and C++. `rt staticlib prover` writes target/staticlib/libprover.a, for x86-64 Linux. */
+/* The tableau prover for C and C++. `rt staticlib wozhnerk` writes target/staticlib/libwozhnerk.a, for x86-64 Linux. */
 #ifndef WOZHNERK_H
 #define WOZHNERK_H
 
@@ -45,7 +45,8 @@ enum {
     WOZHNERK_NONE = 65535
 };
 
-/* Refusals, checked in this order: 1 to 5, then record by record 6 to 9, then 10 to 12. Document 01's word comes first. */
+/* Refusals, checked in this order: 1 to 5, then record by record 6 to 9, then 10 to 12. Document 01's word comes first.
+ * 13 and 14 are the typed call's, which has its own order (below). */
 enum wozhnerk_refusal {
     WOZHNERK_PARTIAL_RECORD = 1,      /* torn: length not a multiple of 6 */
     WOZHNERK_NO_RECORD = 2,           /* blank: no record */
@@ -58,7 +59,9 @@ enum wozhnerk_refusal {
     WOZHNERK_FORMULA_TOO_LARGE = 9,   /* oversize: expanded size above 4,096 */
     WOZHNERK_NO_MARKED_RECORD = 10,   /* unmarked: no marked record */
     WOZHNERK_TOO_MANY_MARKED = 11,    /* crowded: more than 64 marked */
-    WOZHNERK_TOO_MANY_IDENTIFIERS = 12 /* full: the run issues more than 512 identifiers */
+    WOZHNERK_TOO_MANY_IDENTIFIERS = 12, /* full: the run issues more than 512 identifiers */
+    WOZHNERK_UNREADABLE_TEXT = 13,    /* garbled: a text that is not of the grammar */
+    WOZHNERK_TEXT_TOO_LONG = 14       /* long slip: a text of more than 4,096 bytes */
 };
 
 /* The call. Lengths of branch, nodes and formulas are in bytes, that of edges in numbers.
@@ -89,17 +92,60 @@ enum wozhnerk_refusal {
  *
  * The answer is one number.
  *   verdict   bit 63 is 0; bits 0-15 identifiers, 16-31 formulas, 32-47 steps, 48-55 worlds, 56 proved, 57 late
- *   refusal   bit 63 is 1; bits 0-15 record number (0 outside refusals 6 to 9), 16-31 number
+ *   refusal   bit 63 is 1; bits 0-15 record number (0 outside refusals 6 to 9; the offset, of 13), 16-31 number
  * Read no other bits: they are 0 today, and the contract does not speak of them.
  * Proved and late may both be true. A verdict with neither is open. */
 uint64_t wozhnerk_prove(const uint8_t *branch, size_t branch_length, uint8_t flags, uint8_t *nodes, size_t nodes_length,
                         uint8_t *formulas, size_t formulas_length, uint32_t *edges, size_t edges_length);
 
+/* The typed call: a text instead of records.
+ *
+ * The text is ASCII, at most 4,096 bytes, with no byte 0 at its end. Each formula ends with a newline (byte 10, no return
+ * before it), the last included, and is marked. Spaces (byte 32) may stand before, between and after tokens.
+ *   a0 to a65535       atoms, without leading zeros
+ *   ~p  []p  <>p       Non, Necessary, Possible: bind tightest
+ *   p & q              And, then
+ *   p | q              Or, then
+ *   p -> q, p => q     Imply and StrictImply together, then
+ *   p <-> q            BiImply
+ *   (p)                wherever an atom may stand
+ * & and | group to the left, the arrows (->, =>, <->) to the right. An empty line is garbled. A text of no byte, or of
+ * spaces alone, has no formula: refusal 2.
+ *
+ * The records of the formulas are written into a tray of their own, records: of each formula those of its parts first,
+ * left before right, none shared, then its own, which alone has mark 1. So the records that were read end with the last one
+ * that has mark 1. The rest of the 24,576 bytes is zero; anything beyond stays. */
+enum {
+    WOZHNERK_TEXT_LENGTH = 4096,    /* bytes, at most */
+    WOZHNERK_RECORDS_LENGTH = 24576 /* bytes, at least: a record for each byte of a text */
+};
+
+/* Refusals, in this order:
+ *    5   records is below its length
+ *   14   the text has more than 4,096 bytes
+ *   13   the text is garbled; bits 0-15 of the answer are the offset, in bytes from 0, of the first token that can't
+ *        continue a text, or the text's length where it ends short
+ *        these three leave all four trays as lent
+ *   1 to 12   as wozhnerk_prove refuses the records that were read; the record number counts in them. records then holds
+ *        them, and the other trays are as wozhnerk_prove leaves them
+ *
+ * The caller owes what wozhnerk_prove asks, of text (for reading) and the four trays; and 1 MiB of stack: brackets nest in
+ * it (2,046 of them, the most that a text holds, took 624 KiB). Any bytes are allowed as the text.
+ *
+ * It promises that a text is taken exactly if it belongs to the grammar, which gives it one reading; that (5 aside) 13 is
+ * said exactly of texts of at most 4,096 bytes that do not belong to it, and 14 exactly of longer ones; and of the text's
+ * own formulas what wozhnerk_prove promises of the branch's. The answer is read like that of wozhnerk_prove, and says what
+ * that says of the records. */
+uint64_t wozhnerk_prove_typed(const uint8_t *text, size_t text_length, uint8_t flags, uint8_t *records, size_t records_length,
+                              uint8_t *nodes, size_t nodes_length, uint8_t *formulas, size_t formulas_length, uint32_t *edges,
+                              size_t edges_length);
+
 static inline bool wozhnerk_is_refusal(uint64_t answer) { return answer >> 63 != 0; }
 
-/* Of a refusal. */
+/* Of a refusal: its number; its record, of refusals 6 to 9; its offset in the text, of refusal 13. */
 static inline enum wozhnerk_refusal wozhnerk_refusal_number(uint64_t answer) { return (enum wozhnerk_refusal)(answer >> 16 & 65535); }
 static inline unsigned wozhnerk_refusal_record(uint64_t answer) { return (unsigned)(answer & 65535); }
+static inline unsigned wozhnerk_refusal_offset(uint64_t answer) { return (unsigned)(answer & 65535); }
 
 /* Of a verdict. `proved` is false of a refusal too. */
 static inline bool wozhnerk_proved(uint64_t answer) { return !wozhnerk_is_refusal(answer) && (answer >> 56 & 1) != 0; }

@@ -2,7 +2,7 @@
  * A verdict is written as the oracle writes it, with three changes: a field `formulas`; byte 11 of the node record in place
  * of the step; a field `wrong`, which counts bytes that are not as document 01 says: after the used part of a tray, beyond
  * its length, in the copied input, and the marks of made records. Full: `full WRONG`. Another refusal: `refused NUMBER RECORD`.
- *     cc -O2 -Wall -Wextra -Iinclude oracle/ours.c target/staticlib/libprover.a -o ours
+ *     cc -O2 -Wall -Wextra -Iinclude oracle/ours.c target/staticlib/libwozhnerk.a -o ours
  */
 #define _POSIX_C_SOURCE 200809L
 #include <stdio.h>

@@ -6,8 +6,8 @@ use mathlib.Core.Bool.{true}
 use mathlib.Core.List.{List}
 use Prim.Native.Nat.{ℕ, _<_}
 use Rattle.definition.specs.Lists.{Each}
-use Rattle.definition.specs.Records.{Rec, decode, marks}
-use Rattle.definition.specs.Formula.{formAt}
+use Rattle.definition.specs.Records.{decode}
+use Rattle.definition.specs.Formula.{Form, branchOf}
 use Rattle.definition.specs.Setting.{Setting, settingOf, partialEquivalence}
 use Rattle.definition.specs.Models.{Model, Has, truth}
 use Rattle.definition.specs.Trays.{Trays}
@@ -21,12 +21,12 @@ Proved (verdict v) = v .proved ≡ true
 abbrev pub Reaching : Setting → Model → ℕ → Type 0
 Reaching F M w = partialEquivalence F ≡ true → (v : ℕ) × (v < M .size) × (M .reach w v ≡ true)
 
--- the world w makes every formula of the branch true
-abbrev pub Satisfied : List Rec → Model → ℕ → Type 0
-Satisfied rs M w = Each (λ f. truth M (formAt rs f) w ≡ true) (marks rs)
+-- the world w makes every formula of ps true
+abbrev pub Satisfied : List Form → Model → ℕ → Type 0
+Satisfied ps M w = Each (λ p. truth M p w ≡ true) ps
 
-abbrev pub NoModel : Setting → List Rec → Type 0
-NoModel F rs = (M : Model) → Has F M → (w : ℕ) → w < M .size → Reaching F M w → Satisfied rs M w → ⊥
+abbrev pub NoModel : Setting → List Form → Type 0
+NoModel F ps = (M : Model) → Has F M → (w : ℕ) → w < M .size → Reaching F M w → Satisfied ps M w → ⊥
 
 abbrev pub Demand3 : Type 0
-Demand3 = (branch : List ℕ) (flags : ℕ) (lent : Trays) → Proved (answer branch flags lent) → NoModel (settingOf flags) (decode branch)
+Demand3 = (branch : List ℕ) (flags : ℕ) (lent : Trays) → Proved (answer branch flags lent) → NoModel (settingOf flags) (branchOf (decode branch))

@@ -4,13 +4,15 @@ use mathlib.Core.Path.{_≡_}
 use mathlib.Core.Bool.{false}
 use mathlib.Core.List.{List}
 use mathlib.Core.Logic.{_↔_}
-use Prim.Native.Nat.{ℕ}
+use Prim.Native.Nat.{ℕ, _<_}
 use Rattle.definition.specs.Records.{Rec, decode}
+use Rattle.definition.specs.Formula.{Form, branchOf}
 use Rattle.definition.specs.Setting.{Setting, settingOf, partialEquivalence}
+use Rattle.definition.specs.Models.{Model, Has}
 use Rattle.definition.specs.Run.{final}
 use Rattle.definition.specs.Trays.{Trays}
 use Rattle.definition.specs.Call.{Answer, refusal, verdict, answer}
-use Rattle.definition.specs.Claim.{Proved, NoModel}
+use Rattle.definition.specs.Claim.{Proved, Satisfied, NoModel}
 use Rattle.definition.specs.Countermodel.{Countermodel}
 
 -- a verdict that is not late
@@ -27,6 +29,10 @@ Open (verdict v) = (v .proved ≡ false) × (v .late ≡ false)
 abbrev pub HasCountermodel : Setting → List Rec → Type 0
 HasCountermodel F rs = (leaf : ℕ) × Countermodel F rs (final F rs) leaf
 
+-- so there is a finite model with the flagged properties, and a world of it that makes every formula of ps true
+abbrev pub HasModel : Setting → List Form → Type 0
+HasModel F ps = (M : Model) × Has F M × (w : ℕ) × (w < M .size) × Satisfied ps M w
+
 -- "8 skip contradiction checks" is not set
 abbrev pub ChecksContradictions : Setting → Type 0
 ChecksContradictions F = F .skip ≡ false
@@ -41,4 +47,4 @@ Complete =
 abbrev pub ExactInTime : Type 0
 ExactInTime =
     (branch : List ℕ) (flags : ℕ) (lent : Trays) → ChecksContradictions (settingOf flags) → partialEquivalence (settingOf flags) ≡ false → InTime (answer branch flags lent) →
-    (Proved (answer branch flags lent) ↔ NoModel (settingOf flags) (decode branch))
+    (Proved (answer branch flags lent) ↔ NoModel (settingOf flags) (branchOf (decode branch)))

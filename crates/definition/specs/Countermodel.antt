@@ -8,6 +8,7 @@ use Prim.Native.Nat.{ℕ, _<_}
 use lib.Dec.{eqb}
 use Rattle.definition.specs.Lists.{any, find}
 use Rattle.definition.specs.Records.{Atomic, Rec, is, formulaOf}
+use Rattle.definition.specs.Formula.{branchOf}
 use Rattle.definition.specs.Setting.{Setting, partialEquivalence}
 use Rattle.definition.specs.Models.{Model, Has}
 use Rattle.definition.specs.Graph.{edge, initializeGraphIfNeeded}
@@ -47,4 +48,4 @@ pub record Countermodel (F : Setting) (rs : List Rec) (s : State) (leaf : ℕ) :
   pub first : firstOpen s ≡ some leaf
   pub has : Has F (readOff F s leaf)
   pub worldZero : 0 < readOff F s leaf .size
-  pub satisfied : Satisfied rs (readOff F s leaf) 0
+  pub satisfied : Satisfied (branchOf rs) (readOff F s leaf) 0

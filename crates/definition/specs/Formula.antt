@@ -1,8 +1,8 @@
 -- "The formulas of the branch are the marked records, each written out by its links."
-use mathlib.Core.List.{List, [], _∷_, _++_}
+use mathlib.Core.List.{List, [], _∷_, _++_, map}
 use Prim.Native.Nat.{ℕ}
 use lib.ListN.{getD}
-use Rattle.definition.specs.Records.{Kind, Atomic, Non, And, Or, Imply, BiImply, StrictImply, Possible, Necessary, Unknown, Comment, Rec}
+use Rattle.definition.specs.Records.{Kind, Atomic, Non, And, Or, Imply, BiImply, StrictImply, Possible, Necessary, Unknown, Comment, Rec, marks}
 
 pub data Form : Type 0 where
   atom : ℕ → Form
@@ -38,3 +38,7 @@ forms = formsAfter []
 -- the formula of a record number
 abbrev pub formAt : List Rec → ℕ → Form
 formAt rs i = getD (forms rs) i (atom 0)
+
+-- "The formulas of the branch are the marked records, each written out by its links"
+abbrev pub branchOf : List Rec → List Form
+branchOf rs = map (formAt rs) (marks rs)

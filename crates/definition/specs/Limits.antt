@@ -23,6 +23,14 @@ mostFlags = 15
 abbrev pub mostMarked : ℕ
 mostMarked = 64
 
+-- "14 "long slip", above 4,096 bytes": the bytes of a text
+abbrev pub mostText : ℕ
+mostText = 4096
+
+-- "atoms are a0 to a65535"
+abbrev pub largestAtom : ℕ
+largestAtom = 65535
+
 -- "full: the run defined below issues more than 512 identifiers"
 abbrev pub mostIdentifiers : ℕ
 mostIdentifiers = 512
@@ -53,6 +61,10 @@ formulaTrayLength = recordLength * mostFormulas
 abbrev pub edgeTrayLength : ℕ
 edgeTrayLength = graphWidth
 
--- "nodes (6,144 bytes), formulas (7,680 bytes), edges (25 numbers of 32 bits)": what is derived here has the paper's figures
+-- "into a tray of 24,576 bytes": a record for each byte of a text
+abbrev pub textTrayLength : ℕ
+textTrayLength = recordLength * mostText
+
+-- "nodes (6,144 bytes), formulas (7,680 bytes), edges (25 numbers of 32 bits)", "a tray of 24,576 bytes": what is derived here has the paper's figures
 abbrev pub PaperLengths : Type 0
-PaperLengths = (nodeTrayLength ≡ 6144) × (formulaTrayLength ≡ 7680) × (edgeTrayLength ≡ 25)
+PaperLengths = (nodeTrayLength ≡ 6144) × (formulaTrayLength ≡ 7680) × (edgeTrayLength ≡ 25) × (textTrayLength ≡ 24576)

@@ -4,7 +4,7 @@ use mathlib.Core.List.{List}
 use Prim.Native.Nat.{ℕ}
 use Rattle.definition.specs.Lists.{Each}
 use Rattle.definition.specs.Records.{Rec, marks}
-use Rattle.definition.specs.Formula.{Form, atom, non, and, or, imply, biImply, strictImply, possible, necessary, formAt}
+use Rattle.definition.specs.Formula.{Form, atom, non, and, or, imply, biImply, strictImply, possible, necessary, formAt, branchOf}
 use Rattle.definition.specs.Models.{Model}
 use Rattle.definition.specs.Claim.{Satisfied}
 
@@ -29,4 +29,4 @@ assigned a = record { size = 1; reach = λ u v. true; value = λ w. a }
 
 -- the assignment makes every formula of the branch true
 abbrev pub Satisfies : (ℕ → Bool) → List Rec → Type 0
-Satisfies a rs = Satisfied rs (assigned a) 0
+Satisfies a rs = Satisfied (branchOf rs) (assigned a) 0

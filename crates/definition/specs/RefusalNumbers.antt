@@ -48,3 +48,11 @@ tooManyMarked = 11
 -- "full: the run defined below issues more than 512 identifiers"
 abbrev pub tooManyIdentifiers : ℕ
 tooManyIdentifiers = 12
+
+-- "13 "garbled"": a text that is not of the grammar
+abbrev pub unreadableText : ℕ
+unreadableText = 13
+
+-- "14 "long slip", above 4,096 bytes"
+abbrev pub textTooLong : ℕ
+textTooLong = 14

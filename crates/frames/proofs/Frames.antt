@@ -14,7 +14,7 @@ use Rattle.definition.specs.Call as Call
 use Rattle.prover.specs.Said.{said}
 use Rattle.prover.specs.declared.Answer.{Answer}
 use Rattle.frames.specs.Line.{lineOf}
-use Rattle.frames.specs.Lines.{linesBelow, eightLines, Printed}
+use Rattle.frames.specs.Lines.{linesBelow, answersOf, eightLines, Printed}
 use Rattle.frames.specs.Put.{Put}
 use Rattle.frames.specs.Window.{windowLength, keptLength, Window, Windowed}
 use Rattle.frames.proofs.Answering.{answer-lengths, answer-overlong}
@@ -27,18 +27,19 @@ pub put-answer : {text now : List ℕ} {at r : ℕ} (a : Answer) (branch : List 
 put-answer {text} {now} {at} {r} a branch flags lent e l p =
     subst (λ (x : Call.Answer). Put text at (lineOf flags x) now r) (e ∙ answer-lengths branch flags lent zeroTrays l) p
 
-pub lines-none : (text branch : List ℕ) → Put text 0 (linesBelow 0 branch) text 0
+pub lines-none : (text : List ℕ) (answers : ℕ → Call.Answer) → Put text 0 (linesBelow 0 answers) text 0
 unfolding linesBelow
-lines-none text branch = record { size = refl; moved = refl; holds = refl }
+lines-none text answers = record { size = refl; moved = refl; holds = refl }
 
-pub lines-next : {text mid now : List ℕ} {at r : ℕ} (branch : List ℕ) (flags : ℕ) → Put text 0 (linesBelow flags branch) mid at
-    → Put mid at (lineOf flags (answer branch flags zeroTrays)) now r → Put text 0 (linesBelow (flags + 1) branch) now r
+pub lines-next : {text mid now : List ℕ} {at r : ℕ} (answers : ℕ → Call.Answer) (flags : ℕ) → Put text 0 (linesBelow flags answers) mid at
+    → Put mid at (lineOf flags (answers flags)) now r → Put text 0 (linesBelow (flags + 1) answers) now r
 unfolding linesBelow
-lines-next branch flags p q = rw (add-one flags) (put-put p q)
+lines-next answers flags p q = rw (add-one flags) (put-put p q)
 
 -- all eight
-pub lines-all : {text now : List ℕ} {r : ℕ} (branch : List ℕ) (flags : ℕ) → Put text 0 (linesBelow flags branch) now r → flags ≡ 8 → Counts r now × (take r now ≡ eightLines branch)
-lines-all branch flags p e = (put-counts p, p .holds ∙ ap (λ (n : ℕ). linesBelow n branch) e)
+pub lines-all : {text now : List ℕ} {r : ℕ} (answers : ℕ → Call.Answer) (flags : ℕ) → Put text 0 (linesBelow flags answers) now r → flags ≡ 8
+    → Counts r now × (take r now ≡ linesBelow 8 answers)
+lines-all answers flags p e = (put-counts p, p .holds ∙ ap (λ (n : ℕ). linesBelow n answers) e)
 
 answer-window : (whole kept : List ℕ) (seen flags : ℕ) (lent : Trays) → keptLength ≤ length kept → Window whole kept seen → answer (take seen kept) flags lent ≡ answer whole flags lent
 answer-window whole kept seen flags lent size w =
@@ -49,11 +50,11 @@ answer-window whole kept seen flags lent size w =
     answer-overlong whole (take seen kept) flags lent h (length-take-le seen kept (omega arith) ∙ known))
     (within (length whole))
 
-lines-same : (n : ℕ) (a b : List ℕ) → ((flags : ℕ) → answer a flags zeroTrays ≡ answer b flags zeroTrays) → linesBelow n a ≡ linesBelow n b
+lines-same : (n : ℕ) (a b : ℕ → Call.Answer) → ((flags : ℕ) → a flags ≡ b flags) → linesBelow n a ≡ linesBelow n b
 unfolding linesBelow
 lines-same zero a b h = refl
 lines-same (suc n) a b h =
-    ap (λ (s : List ℕ). s ++ lineOf n (answer a n zeroTrays)) (lines-same n a b h)
+    ap (λ (s : List ℕ). s ++ lineOf n (a n)) (lines-same n a b h)
     ∙ ap (λ (x : Call.Answer). linesBelow n b ++ lineOf n x) (h n)
 
 -- what is printed of the bytes kept is what the whole input asks for
@@ -62,5 +63,5 @@ printed {kept} {text} {seen} {n} w e =
     record {
       whole = w .whole;
       held = w .held;
-      lines = e ∙ lines-same 8 (take seen kept) (w .whole) (λ flags. answer-window (w .whole) kept seen flags zeroTrays (w .enough) (w .held));
+      lines = e ∙ lines-same 8 (answersOf (take seen kept)) (answersOf (w .whole)) (λ flags. answer-window (w .whole) kept seen flags zeroTrays (w .enough) (w .held));
     }

@@ -14,7 +14,7 @@ use Rattle.prover.specs.declared.Answer.{Answer}
 use Rattle.prover.specs.declared.Answer.the-variants.{Refusal, Verdict}
 use Rattle.slices.specs.Text.{decimalOf, lineOfWords}
 use Rattle.frames.specs.Line.{wordOf, lineOf, refusedWord}
-use Rattle.frames.specs.Put.{Put}
+use Rattle.frames.specs.Put.{Put, numberLength}
 use Rattle.frames.specs.Window.{keptWith}
 use Rattle.frames.proofs.Decimals.{digits-decimal, length-decimal}
 
@@ -68,7 +68,7 @@ kept-all {kept} {part} {now} {seen} {i} {n} r e c = copied (min (length kept - s
 -- a number and the byte after it
 pub put-number : {text mid now : List ℕ} {at next r after : ℕ} (n k : ℕ) (s : List ℕ) → n < 18446744073709551616 → Fewest 10 1 n k → take k s ≡ digits 10 k n
     → Put text at (take k s) mid next → Put mid next (after ∷ []) now r
-    → Put text at (decimalOf n ++ (after ∷ [])) now r × (r ≤ at + 21)
+    → Put text at (decimalOf n ++ (after ∷ [])) now r × (r ≤ at + numberLength)
 put-number {text} {mid} {now} {at} {next} {r} {after} n k s h f e p q = (
   subst (λ (t : List ℕ). Put text at (t ++ (after ∷ [])) now r) (e ∙ digits-decimal n k f) (put-put p q),
   omega (arith, p .moved, q .moved, length-decimal n k s h f e),

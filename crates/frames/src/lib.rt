@@ -1,17 +1,18 @@
 // Eight Frames: what is kept of standard input, and the lines that are printed of it.
 ghost use mathlib.Core.Path.{_≡_};
+ghost use mathlib.Core.Bool.{false};
 ghost use mathlib.Core.List.{[], _∷_, _++_};
 ghost use Prim.Native.Nat.{_+_, _-_, _≤_, _<_, min};
 ghost use lib.ListN.{length, take};
 ghost use Rattle.io.specs.Counts.{Counts};
 ghost use Rattle.definition.specs.Trays.{zeroTrays};
-ghost use Rattle.definition.specs.Call.{answer};
+ghost use Rattle.definition.specs.Call.{answer, refusal};
 ghost use Rattle.prover.specs.Said.{said};
 ghost use Rattle.frames.specs.Window.{keptLength, window, keptWith, Windowed, Reads, ReadsMore};
 ghost use Rattle.slices.specs.Text.{decimalOf, lineOfWords};
 ghost use Rattle.frames.specs.Line.{lineLength, lineOf, refusedWord, wordOf};
-ghost use Rattle.frames.specs.Lines.{eightLines, Runs};
-ghost use Rattle.frames.specs.Put.{Put};
+ghost use Rattle.frames.specs.Lines.{eightLines, refusalLines, Runs};
+ghost use Rattle.frames.specs.Put.{Put, numberLength};
 use limits::EDGE_TRAY_LENGTH;
 use limits::FORMULA_TRAY_LENGTH;
 use limits::MOST_RECORDS;
@@ -28,6 +29,9 @@ const OVER_LENGTH: usize = WINDOW_LENGTH + RECORD_LENGTH;
 
 // So many bytes are kept of an input: no count is greater.
 pub const KEPT_LENGTH: usize = OVER_LENGTH + RECORD_LENGTH - 1;
+
+// No number of 64 bits and the byte after it are longer.
+const NUMBER_LENGTH: usize = 21;
 
 // No line is longer.
 pub const LINE_LENGTH: usize = 96;
@@ -153,16 +157,45 @@ fn put(text: &mut [u8], at: usize, bytes: &[u8]) -> usize
     at + bytes.len()
 }
 
+// Bytes put at a position, and the position after them. Where they do not fit, nothing is put.
+pub fn put_at(text: &mut [u8], at: usize, bytes: &[u8]) -> usize
+    ensures { λ r. ⌜ (at + length (now (bytes .entry)) ≤ length (now (text .entry)) → Put (now (text .entry)) at (now (bytes .entry)) (now (text .exit)) r) ⌝ }
+    ensures { λ r. ⌜ (length (now (text .entry)) < at + length (now (bytes .entry)) → (r ≡ at) × (now (text .exit) ≡ now (text .entry))) ⌝ }
+{
+    if text.len() < at {
+        return at;
+    }
+    if text.len() - at < bytes.len() {
+        return at;
+    }
+    put(text, at, bytes)
+}
+
 // A number and the byte after it.
 fn put_number(text: &mut [u8], at: usize, n: u64, after: u8) -> usize
-    requires { ⌜ at + 21 ≤ length (now text) ⌝ }
+    requires { ⌜ at + numberLength ≤ length (now text) ⌝ }
     ensures { λ r. ⌜ Put (now (text .entry)) at (decimalOf n ++ (after ∷ [])) (now (text .exit)) r ⌝ }
-    ensures { λ r. ⌜ r ≤ at + 21 ⌝ }
+    ensures { λ r. ⌜ r ≤ at + numberLength ⌝ }
 {
     let mut digits = [0u8; 20];
     let k = io::decimal(n, &mut digits);
     let end = put(text, at, &digits[..k]);
     put(text, end, &[after])
+}
+
+// A number and the byte after it, and the position after them. Where the longest number does not fit,
+// nothing is put.
+pub fn put_number_at(text: &mut [u8], at: usize, n: u64, after: u8) -> usize
+    ensures { λ r. ⌜ (at + numberLength ≤ length (now (text .entry)) → Put (now (text .entry)) at (decimalOf n ++ (after ∷ [])) (now (text .exit)) r × (r ≤ at + numberLength)) ⌝ }
+    ensures { λ r. ⌜ (length (now (text .entry)) < at + numberLength → (r ≡ at) × (now (text .exit) ≡ now (text .entry))) ⌝ }
+{
+    if text.len() < at {
+        return at;
+    }
+    if text.len() - at < NUMBER_LENGTH {
+        return at;
+    }
+    put_number(text, at, n, after)
 }
 
 // The word of a verdict and a space.
@@ -263,6 +296,29 @@ pub fn lines(text: &mut TextBytes, branch: &[u8]) -> usize
     at
 }
 
+// The line of a refusal, put at a position.
+fn put_refused(text: &mut [u8], at: usize, flags: u8, number: u16, place: u16) -> usize
+    requires { ⌜ at + lineLength ≤ length (now text) ⌝ }
+    ensures { λ r. ⌜ Put (now (text .entry)) at (lineOf flags (refusal number place)) (now (text .exit)) r ⌝ }
+    ensures { λ r. ⌜ r ≤ at + lineLength ⌝ }
+{
+    put_line(text, at, flags, Answer::Refusal { number, place })
+}
+
+// The eight lines of a refusal, and their length.
+pub fn refusal_lines(text: &mut TextBytes, number: u16, place: u16) -> usize
+    ensures { λ r. ⌜ Counts r (now (text .exit)) ⌝ }
+    ensures { λ r. ⌜ take r (now (text .exit)) ≡ refusalLines number place ⌝ }
+{
+    let mut at: usize = 0;
+    let mut flags: u8 = 0;
+    while flags < 8 {
+        at = put_refused(text, at, flags, number, place);
+        flags += 1;
+    }
+    at
+}
+
 // The eight lines of the bytes kept, and their length.
 fn lines_of(text: &mut TextBytes, kept: &[u8], seen: usize) -> usize
     requires { ⌜ Counts seen (now kept) ⌝ }
@@ -272,10 +328,14 @@ fn lines_of(text: &mut TextBytes, kept: &[u8], seen: usize) -> usize
     lines(text, &kept[..seen])
 }
 
-// Prints the text on standard output; whether all of it was written.
-fn print(text: &[u8], printed: usize) -> bool
-    requires { ⌜ Counts printed (now text) ⌝ }
+// Prints so many bytes of the text on standard output; whether all of them were written. Of a text that
+// has fewer, none are.
+pub fn print(text: &[u8], printed: usize) -> bool
+    ensures { λ r. ⌜ (length (now (text .entry)) < printed → r ≡ false) ⌝ }
 {
+    if text.len() < printed {
+        return false;
+    }
     io::write_all(libc::STDOUT_FILENO, &text[..printed])
 }
 

@@ -40,6 +40,12 @@ pub const FORMULA_TRAY_LENGTH: usize = RECORD_LENGTH * MOST_FORMULAS;
 
 pub const EDGE_TRAY_LENGTH: usize = GRAPH_WIDTH;
 
+pub const MOST_TEXT: usize = 4096;
+
+pub const LARGEST_ATOM: u32 = 65535;
+
+pub const TEXT_TRAY_LENGTH: usize = RECORD_LENGTH * MOST_TEXT;
+
 pub const NODE_FIELDS: usize = 9;
 
 pub const NODE_CELLS: usize = MOST_IDENTIFIERS * NODE_FIELDS;
@@ -89,6 +95,10 @@ pub const TOO_MANY_MARKED: u16 = 11;
 
 pub const TOO_MANY_IDENTIFIERS: u16 = 12;
 
+pub const UNREADABLE_TEXT: u16 = 13;
+
+pub const TEXT_TOO_LONG: u16 = 14;
+
 // The expanded sizes of a branch's records.
 pub type RecordSizes = [u16; MOST_RECORDS];
 
@@ -121,3 +131,8 @@ pub type Waiting = Numbers;
 
 // The classes of those that wait, in the same order.
 pub type Classes = Numbers;
+
+// A text's tokens, one place each, and its records as bytes.
+pub type Tokens = [u32; MOST_TEXT];
+
+pub type TextRecords = [u8; TEXT_TRAY_LENGTH];

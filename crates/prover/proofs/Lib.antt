@@ -1,4 +1,3 @@
 pub mod Beginning
 pub mod Ending
 pub mod Whole
-pub mod Words

@@ -1,8 +1,8 @@
 -- The whole call, from its parts.
 use mathlib.Core.Path.{_≡_, refl, sym, ap, _∙_, subst}
-use mathlib.Core.Bool.{Bool, true, false, cond}
+use mathlib.Core.Bool.{true, false}
 use mathlib.Core.List.{List}
-use mathlib.Core.Option.{Option, none, some}
+use mathlib.Core.Option.{none, some}
 use mathlib.Core.Logic.{_⊎_, inl, inr}
 use Prim.Native.Nat.{ℕ, _≤_, _<_, _/_}
 use native.Mathlib.Omega.{arith}
@@ -15,16 +15,16 @@ use Rattle.definition.specs.Records.{Rec, Unknown, nobody, made, decode, recAt,
 use Rattle.definition.specs.Setting.{Setting, settingOf}
 use Rattle.definition.specs.Tree.{Node, newNode}
 use Rattle.definition.specs.Graph.{initializeGraphIfNeeded}
-use Rattle.definition.specs.Run.{State, full, start, run, final, enoughSteps}
+use Rattle.definition.specs.Run.{start, run, final, enoughSteps}
 use Rattle.definition.specs.Trays.{Trays}
-use Rattle.definition.specs.Checks.{LongEnough, Check, check, refused}
+use Rattle.definition.specs.Checks.{LongEnough, check, refused}
 use Rattle.definition.specs.Call.{Outcome, Refused, Full, Ended, Answer, refusal, outcomeOfRun, outcomeBy, outcome, answerOf, answer, traysAfter, traysLeft, lengthsOf}
 use Rattle.definition.specs.Claim.{Proved}
 use Rattle.definition.specs.Completeness.{Open, InTime}
-use Rattle.definition.proofs.Basics.Lists.{each-of, each-any}
+use Rattle.definition.proofs.Basics.Lists.{each-of}
 use Rattle.definition.proofs.Soundness.Edges.{init-one, init-less}
 use Rattle.definition.proofs.Call.Bounds.{bounded-formulas, bounded-steps}
-use Rattle.definition.proofs.Run.Accepted.{Accepted, accepted, length-decode}
+use Rattle.definition.proofs.Run.Accepted.{Accepted, length-decode}
 use Rattle.definition.proofs.Call.Outcomes.{final-bounded, twelve-exactly, twelve-zeroes}
 use Rattle.definition.specs.Reached.{Reached}
 use Rattle.definition.proofs.Engine.Reached.{reached-start}
@@ -33,7 +33,6 @@ use Rattle.definition.proofs.Completeness.Whole.{complete, exact}
 use Rattle.logic.specs.declared.Progress.{Progress}
 use Rattle.proof.specs.StateHeld.{StateHeld}
 use Rattle.prover.specs.Contract.{Contract}
-use Rattle.prover.specs.Said.{worldsOf}
 use Rattle.prover.specs.Parts.{Ends}
 
 module _ (branch : List ℕ) (flags : ℕ) (lent : Trays) where
@@ -121,27 +120,3 @@ module _ (branch : List ℕ) (flags : ℕ) (lent : Trays) where
         let ran = (rw l at go) (reached-start branch flags (lengthsOf lent) e) ((rw l at begin) (omega (arith, length-decode branch, a .few)) (a .marked) (a .fewMarked)) in
         let done = finish ran run-ends (a .trays) in
         contract-run _ _ e (done .0) (done .1)
-
--- no verdict has more worlds than a byte holds
-answer-worlds : (branch : List ℕ) (flags : ℕ) (lent : Trays) → worldsOf (answer branch flags lent) ≤ 255
-unfolding answer outcome outcomeBy outcomeOfRun answerOf worldsOf
-answer-worlds branch flags lent = go (refused branch flags (lengthsOf lent)) refl
-  where
-    z : State
-    z = final (settingOf flags) (decode branch)
-
-    ends : Accepted branch flags (lengthsOf lent) → (b : Bool) → full z ≡ b → worldsOf (answerOf (settingOf flags) (cond b Full (Ended z))) ≤ 255
-    ends a true q = omega arith
-    ends a false q =
-        let P : Rec → Type 0 = λ r. Unit {0} in
-        omega (arith, final-bounded branch flags (lengthsOf lent) a q P (λ r k. tt) (each-any P (λ r. tt) (decode branch)) .sizes .worlds)
-
-    go : (x : Option Check) → refused branch flags (lengthsOf lent) ≡ x → worldsOf (answerOf (settingOf flags) (outcomeBy branch flags x)) ≤ 255
-    go (some c) q = omega arith
-    go none q = ends (accepted branch flags (lengthsOf lent) q) (full z) refl
-
--- the same answer in other words
-pub contract-as : {branch : List ℕ} {flags : ℕ} {lent left : Trays} {a b : Answer} → Contract branch flags lent a left → (worldsOf a ≤ 255 → b ≡ a) → Contract branch flags lent b left
-contract-as {branch} {flags} {lent} {left} k e =
-    let low = subst (λ (x : Answer). worldsOf x ≤ 255) (sym (k .answers)) (answer-worlds branch flags lent) in
-    subst (λ (x : Answer). Contract branch flags lent x left) (sym (e low)) k

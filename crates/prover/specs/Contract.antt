@@ -7,6 +7,7 @@ use mathlib.Core.Logic.{_↔_}
 use Prim.Native.Nat.{ℕ}
 use Rattle.definition.specs.RefusalNumbers.{tooManyIdentifiers}
 use Rattle.definition.specs.Records.{decode}
+use Rattle.definition.specs.Formula.{branchOf}
 use Rattle.definition.specs.Checks.{refused}
 use Rattle.definition.specs.Setting.{settingOf, partialEquivalence}
 use Rattle.definition.specs.Run.{Passes}
@@ -31,9 +32,9 @@ pub record Contract (branch : List ℕ) (flags : ℕ) (lent : Trays) (said : Ans
   pub fullZeroes : (place : ℕ) → said ≡ refusal tooManyIdentifiers place → left ≡ laidOver zeroTrays lent
   -- demand 3: "if a verdict is returned in which `proved` is true, late beside it or not, then no world of any finite Kripke model
   -- with the flagged properties (..), however large, makes every formula of the branch true"
-  pub provedIsSound : Proved said → NoModel (settingOf flags) (decode branch)
+  pub provedIsSound : Proved said → NoModel (settingOf flags) (branchOf (decode branch))
   -- beyond the demands: where contradiction checks were not skipped, an open verdict has a model, read off the first open path: it has the flagged
   -- properties, and its world 0 makes every formula of the branch true
   pub openHasModel : ChecksContradictions (settingOf flags) → Open said → HasCountermodel (settingOf flags) (decode branch)
   -- so a verdict that is not late is exact, unless the flags are symmetric and transitive without reflexive
-  pub exactInTime : ChecksContradictions (settingOf flags) → partialEquivalence (settingOf flags) ≡ false → InTime said → (Proved said ↔ NoModel (settingOf flags) (decode branch))
+  pub exactInTime : ChecksContradictions (settingOf flags) → partialEquivalence (settingOf flags) ≡ false → InTime said → (Proved said ↔ NoModel (settingOf flags) (branchOf (decode branch)))

@@ -1,8 +1,5 @@
 -- The cases of the answer, as document 01 has them: a refusal's number and record number; or
 -- "proved, late, and the counts of identifiers, formulas (input and made), worlds and steps".
-use mathlib.Core.Bool.{cond}
-use Prim.Native.Nat.{ℕ, _/_, _%_}
-use lib.Dec.{eqb}
 use Rattle.definition.specs.Call
 use Rattle.definition.specs.Call.{refusal, verdict}
 use Rattle.prover.specs.declared.Answer.{Answer}
@@ -12,24 +9,3 @@ unfoldable pub said : Answer → Call.Answer
 said (Refusal number place) = refusal number place
 said (Verdict proved late identifiers formulas worlds steps) =
     verdict (record { proved = proved; late = late; identifiers = identifiers; formulas = formulas; worlds = worlds; steps = steps })
-
--- what the number of the exported function says. A refusal: bit 63 is 1, bits 0 to 15 are the place, 16 to 31 the number.
--- A verdict: bits 0 to 15 are the identifiers, 16 to 31 the formulas, 32 to 47 the steps, 48 to 55 the worlds, bit 56 is proved, bit 57 late
-unfoldable pub read : ℕ → Call.Answer
-read w =
-    cond (eqb (w / 9223372036854775808) 1)
-    (refusal (w / 65536 % 65536) (w % 65536))
-    (verdict
-    (record {
-      proved = eqb (w / 72057594037927936 % 2) 1;
-      late = eqb (w / 144115188075855872 % 2) 1;
-      identifiers = w % 65536;
-      formulas = w / 65536 % 65536;
-      worlds = w / 281474976710656 % 256;
-      steps = w / 4294967296 % 65536;
-    }))
-
--- the worlds of a verdict
-unfoldable pub worldsOf : Call.Answer → ℕ
-worldsOf (refusal number place) = 0
-worldsOf (verdict v) = v .worlds

@@ -30,7 +30,7 @@ use trays::write_formulas;
 use trays::write_nodes;
 use tree::NO_NUMBER;
 ghost use mathlib.Core.Path.{_≡_};
-ghost use mathlib.Core.Bool.{false, cond};
+ghost use mathlib.Core.Bool.{false};
 ghost use mathlib.Core.List.{List, []};
 ghost use mathlib.Core.Option.{none};
 ghost use Prim.Native.Nat.{ℕ, _≤_, _/_};
@@ -51,7 +51,7 @@ ghost use Rattle.tree.specs.Lay.{Held};
 ghost use Rattle.necessities.specs.Stack.{Stack};
 ghost use Rattle.proof.specs.StateHeld.{StateHeld};
 ghost use Rattle.prover.specs.Contract.{trays, Contract};
-ghost use Rattle.prover.specs.Said.{said, read, worldsOf};
+ghost use Rattle.prover.specs.Said.{said};
 ghost use Rattle.prover.specs.Parts.{Ends};
 
 // A verdict, or a refusal by the table's number with its record number.
@@ -216,56 +216,4 @@ pub fn prove(
         Checked::Refused { number, place } => Answer::Refusal { number, place },
         Checked::Accepted => run(branch, flags, node_tray, formula_tray, edge_tray),
     }
-}
-
-fn bit(b: bool) -> u64
-    ensures { λ r. ⌜ r ≡ cond b 1 0 ⌝ }
-    ensures { λ r. ⌜ r ≤ 1 ⌝ }
-{
-    if b {
-        return 1;
-    }
-    0
-}
-
-// The answer in one number.
-fn word(x: Answer) -> u64
-    ensures { λ r. ⌜ (worldsOf (said x) ≤ 255 → read r ≡ said x) ⌝ }
-{
-    match x {
-        Answer::Refusal { number, place } => {
-            place as u64 + number as u64 * 65536 + 9223372036854775808
-        }
-        Answer::Verdict {
-            proved,
-            late,
-            identifiers,
-            formulas,
-            worlds,
-            steps,
-        } => {
-            if 255 < worlds {
-                return 0;
-            }
-            let counts = identifiers as u64 + formulas as u64 * 65536 + steps as u64 * 4294967296;
-            let p = bit(proved) * 72057594037927936;
-            let l = bit(late) * 144115188075855872;
-            counts + worlds as u64 * 281474976710656 + p + l
-        }
-    }
-}
-
-// The call for C and Rust. The answer is the number itself, so nothing but the trays is written.
-#[no_mangle]
-pub extern "C" fn wozhnerk_prove(
-    branch: &[u8],
-    flags: u8,
-    node_tray: &mut [u8],
-    formula_tray: &mut [u8],
-    edge_tray: &mut [u32],
-) -> u64
-    ensures { λ r. ⌜ Contract (now (branch .entry)) flags (trays (now («node_tray» .entry)) (now («formula_tray» .entry)) (now («edge_tray» .entry))) (read r) (trays (now («node_tray» .exit)) (now («formula_tray» .exit)) (now («edge_tray» .exit))) ⌝ }
-{
-    let x = prove(branch, flags, node_tray, formula_tray, edge_tray);
-    word(x)
 }

@@ -5,15 +5,14 @@ use mathlib.Core.List.{List}
 use Prim.Native.Nat.{ℕ, _<_}
 use native.Mathlib.Omega.{arith}
 use lib.Dec.{eqb}
-use Rattle.definition.specs.Lists.{Each}
 use Rattle.definition.specs.Records
-use Rattle.definition.specs.Records.{decode, marks}
+use Rattle.definition.specs.Records.{decode}
 use Rattle.definition.specs.Formula
-use Rattle.definition.specs.Formula.{formAt}
+use Rattle.definition.specs.Formula.{branchOf}
 use Rattle.definition.specs.Setting.{settingOf}
 use Rattle.definition.specs.Models.{Model, Has, truth}
 use Rattle.definition.specs.Call.{answerOf}
-use Rattle.definition.specs.Claim.{Proved}
+use Rattle.definition.specs.Claim.{Proved, Satisfied}
 use Rattle.definition.specs.Cases.{bytes, deadEnd}
 use Rattle.definition.specs.Refusals.{exactly}
 use Rattle.definition.proofs.Basics.Lists.{true-false}
@@ -46,7 +45,7 @@ lonely-size : 0 < lonely .size
 unfolding lonely
 lonely-size = omega arith
 
-lonely-holds : Each (λ f. truth lonely (formAt (decode branch) f) 0 ≡ true) (marks (decode branch))
+lonely-holds : Satisfied (branchOf (decode branch)) lonely 0
 unfolding lonely truth decode Records.recordAt Records.kindOf Records.marksFrom Formula.formBy Formula.written Formula.formsAfter
 lonely-holds = (refl, (refl, (refl, tt)))
 

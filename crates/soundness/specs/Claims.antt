@@ -11,7 +11,7 @@ use Rattle.definition.specs.Limits.{mostIdentifiers, worldLimit, graphWidth, mo
 use Rattle.definition.specs.RefusalNumbers.{tooManyIdentifiers}
 use Rattle.definition.specs.Lists.{Each, Distinct, empty}
 use Rattle.definition.specs.Records.{Rec, nobody, isNobody, decode, marks}
-use Rattle.definition.specs.Formula.{formAt}
+use Rattle.definition.specs.Formula.{formAt, branchOf}
 use Rattle.definition.specs.Setting.{Setting, settingOf}
 use Rattle.definition.specs.Checks.{Lengths, LongEnough, Check, refused}
 use Rattle.definition.specs.Models.{Model, Has}
@@ -142,7 +142,7 @@ abbrev pub DeadEnd : Type 0
 DeadEnd =
     let branch = bytes deadEnd in
     ((lent : Trays) → LongEnough (lengthsOf lent) → Proved (answer branch 6 lent)) ×
-    ((M : Model) × Has (settingOf 6) M × (0 < M .size) × ((v : ℕ) → M .reach 0 v ≡ false) × Satisfied (decode branch) M 0)
+    ((M : Model) × Has (settingOf 6) M × (0 < M .size) × ((v : ℕ) → M .reach 0 v ≡ false) × Satisfied (branchOf (decode branch)) M 0)
 
 -- a branch without a modal connective, whatever the frame properties and with no bound on its atoms: a verdict of a run that checks contradictions is proved
 -- exactly if no assignment makes every formula of the branch true

@@ -44,7 +44,7 @@ form-append rs more i h =
     rw (after-append rs more [], k .1) (List·getD-append (forms rs) (k .0) (atom 0) i (omega (arith, length-forms rs)))
 
 -- the formula of the first record appended
-made-first : (rs : List Rec) (r : Rec) (more : List Rec) → formAt (rs ++ (r ∷ more)) (length rs) ≡ written (forms rs) r
+pub made-first : (rs : List Rec) (r : Rec) (more : List Rec) → formAt (rs ++ (r ∷ more)) (length rs) ≡ written (forms rs) r
 unfolding after
 made-first rs r more =
     rw (after-append rs (r ∷ more) [], after (r ∷ more) (forms rs) .1) (getD-at (forms rs) (written (forms rs) r) _ (atom 0) (length rs) (length-forms rs))

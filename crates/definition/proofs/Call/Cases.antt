@@ -90,4 +90,4 @@ unfolding computed answerOf
 refusals = refl
 
 pub paper-lengths : PaperLengths
-paper-lengths = (refl, refl, refl)
+paper-lengths = (refl, refl, refl, refl)

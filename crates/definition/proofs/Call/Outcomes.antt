@@ -19,7 +19,7 @@ use Rattle.definition.specs.Trays.{Trays, rowNumber, traysOf, zeroTrays,
 use Rattle.definition.specs.Call.{Outcome, Refused, Full, Ended, outcomeOfRun, outcomeBy, outcome, refusal, answerOf, answer, traysAfter, traysLeft, lengthsOf}
 use Rattle.definition.specs.Fits.{RecordFits, Sized, TraysKept}
 use Rattle.definition.proofs.Basics.Lists.{each-of, each-both, each-any, each-of-map, bit-low}
-use Rattle.definition.proofs.Run.Accepted.{Accepted, accepted, long-alike, refused-other}
+use Rattle.definition.proofs.Run.Accepted.{Accepted, accepted, long-alike, refused-earlier}
 use Rattle.definition.proofs.Run.Fullness.{full-exactly}
 use Rattle.definition.proofs.Basics.Forms.{WellFormed}
 use Rattle.definition.proofs.Call.Bounds.{Bounded, run-bounded, bounded-formulas}
@@ -135,7 +135,7 @@ module _ (branch : List ℕ) (flags : ℕ) (lent : Trays) where
       ran false q a = let o : _≡_ {A = ℕ} 0 1 = cc in absurd (omega arith)
 
       go : (o : Option Check) → refused branch flags (lengthsOf lent) ≡ o → answerOf (settingOf flags) (outcomeBy branch flags o) ≡ refusal tooManyIdentifiers place → (refused branch flags (lengthsOf lent) ≡ none) × (full y ≡ true)
-      go (some c) q a = let d : c .number ≡ tooManyIdentifiers = cc in absurd (refused-other branch flags (lengthsOf lent) c q d)
+      go (some c) q a = let d : c .number ≡ tooManyIdentifiers = cc in absurd (omega (arith, d, refused-earlier branch flags (lengthsOf lent) c q))
       go none q a = (q, ran (full y) refl a)
 
   full-outcome : refused branch flags (lengthsOf lent) ≡ none → full y ≡ true → outcome branch flags (lengthsOf lent) ≡ Full
@@ -151,6 +151,22 @@ module _ (branch : List ℕ) (flags : ℕ) (lent : Trays) where
   pub twelve-zeroes : (place : ℕ) → answer branch flags lent ≡ refusal tooManyIdentifiers place → traysLeft branch flags lent ≡ laidOver zeroTrays lent
   unfolding traysLeft traysAfter
   twelve-zeroes place a = let h = twelve-full place a in ap (λ (o : Outcome). traysAfter o lent) (full-outcome (h .0) (h .1))
+
+-- no refusal of the call has a number above that of "full"
+pub refusal-number : (branch : List ℕ) (flags : ℕ) (lent : Trays) (number place : ℕ) → answer branch flags lent ≡ refusal number place → number ≤ tooManyIdentifiers
+unfolding answer outcome outcomeBy outcomeOfRun answerOf
+refusal-number branch flags lent number place = go (refused branch flags (lengthsOf lent)) refl
+  where
+    z : State
+    z = final (settingOf flags) (decode branch)
+
+    ran : (b : Bool) → answerOf (settingOf flags) (cond b Full (Ended z)) ≡ refusal number place → number ≤ tooManyIdentifiers
+    ran true a = let d : tooManyIdentifiers ≡ number = cc in omega (arith, d)
+    ran false a = let d : _≡_ {A = ℕ} 0 1 = cc in absurd (omega arith)
+
+    go : (o : Option Check) → refused branch flags (lengthsOf lent) ≡ o → answerOf (settingOf flags) (outcomeBy branch flags o) ≡ refusal number place → number ≤ tooManyIdentifiers
+    go (some c) q a = let d : c .number ≡ number = cc in omega (arith, d, refused-earlier branch flags (lengthsOf lent) c q)
+    go none q a = ran (full z) a
 
 -- a refusal before the run writes nothing
 pub refused-keeps : (branch : List ℕ) (flags : ℕ) (lent : Trays) (c : Check) → outcome branch flags (lengthsOf lent) ≡ Refused c → traysLeft branch flags lent ≡ lent

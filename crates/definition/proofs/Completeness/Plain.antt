@@ -203,7 +203,7 @@ has-assignment branch flags lent v h checks plain unproved =
     let (a, room, open-end) = answered Unproved (λ n i q. q) branch flags lent (subst Unproved (sym h) unproved) in
     let (l, k) = run-complete branch flags (lengthsOf lent) a checks room open-end (plain-worlds branch flags (lengthsOf lent) a checks plain) in
     let M = readOff (settingOf flags) (final (settingOf flags) rs) l in
-    (M .value 0, each-both (λ f (q : Plain (formAt rs f)) (t : truth M (formAt rs f) 0 ≡ true). plain-truth M 0 (formAt rs f) q ∙ t) (marks rs) plain (k .satisfied))
+    (M .value 0, each-of-map _ (formAt rs) (marks rs) (each-both (λ f (q : Plain (formAt rs f)) (t : truth M (formAt rs f) 0 ≡ true). plain-truth M 0 (formAt rs f) q ∙ t) (marks rs) plain (each-from-map _ (formAt rs) (marks rs) (k .satisfied))))
 
 pub decides : (branch : List ℕ) (flags : ℕ) (lent : Trays) (v : Verdict) → answer branch flags lent ≡ verdict v → ChecksContradictions (settingOf flags) → PlainBranch (decode branch) →
     ((v .proved ≡ true) ↔ ((a : ℕ → Bool) → Satisfies a (decode branch) → ⊥))

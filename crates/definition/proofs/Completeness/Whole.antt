@@ -12,7 +12,7 @@ use Rattle.definition.specs.RefusalNumbers.{tooManyIdentifiers}
 use Rattle.definition.specs.Lists.{Each, all, find, elem, empty}
 use Rattle.definition.specs.Records.{Rec, Unknown, decode, marks, made, numberOf, recAt}
 use Rattle.definition.specs.Checks.{Lengths}
-use Rattle.definition.specs.Formula.{Form, formAt}
+use Rattle.definition.specs.Formula.{Form, formAt, branchOf}
 use Rattle.definition.specs.Setting.{Setting, settingOf, partialEquivalence}
 use Rattle.definition.specs.Models.{Model, Has, truth}
 use Rattle.definition.specs.Graph.{edge}
@@ -25,9 +25,9 @@ use Rattle.definition.specs.Trays.{Trays}
 use Rattle.definition.specs.Call.{Outcome, Refused, Full, Ended, outcome, Answer, refusal, verdict, answerOf, answer, lengthsOf, late}
 use Rattle.definition.specs.Claim.{Proved}
 use Rattle.definition.specs.Countermodel.{keepsEdges, readOff, firstOpen, Countermodel}
-use Rattle.definition.specs.Completeness.{InTime, Open, HasCountermodel, Complete, ExactInTime}
+use Rattle.definition.specs.Completeness.{InTime, Open, HasCountermodel, HasModel, Complete, ExactInTime}
 use Rattle.definition.specs.Fits.{RecordFits}
-use Rattle.definition.proofs.Basics.Lists.{true-false, either, or-cases, and-left, and-right, and-both, some-among, each-map, each-of, each-among, among-elem}
+use Rattle.definition.proofs.Basics.Lists.{true-false, either, or-cases, and-left, and-right, and-both, some-among, each-map, each-of-map, each-of, each-among, among-elem}
 use Rattle.definition.proofs.Run.Fullness.{final-stops}
 use Rattle.definition.proofs.Run.Accepted.{Accepted}
 use Rattle.definition.proofs.Soundness.Priest.{Claims}
@@ -164,7 +164,7 @@ module _ (F : Setting) (rs₀ : List Rec) (s : State) (g : Good F rs₀ s) (smal
 
     countermodel : firstOpen s ≡ some l → Countermodel F rs₀ s l
     unfolding readOff
-    countermodel first = record { first = first; has = read-has F s l (g .saturated .frame); worldZero = init-worlds F (s .graph) .0; satisfied = each-map (λ f. path-true 0 (formAt rs₀ f)) (marks rs₀) (g .roots l o) }
+    countermodel first = record { first = first; has = read-has F s l (g .saturated .frame); worldZero = init-worlds F (s .graph) .0; satisfied = each-of-map _ (formAt rs₀) (marks rs₀) (each-map (λ f. path-true 0 (formAt rs₀ f)) (marks rs₀) (g .roots l o)) }
 
 -- ---- the run of an accepted branch
 accepted-kinds : (branch : List ℕ) (flags : ℕ) (lent : Lengths) → Accepted branch flags lent → Each (λ (r : Rec). numberOf (r .kind) ≤ 8) (decode branch)
@@ -213,6 +213,10 @@ answered P never branch flags lent h = go (outcome branch flags (lengthsOf lent)
 pub complete : Complete
 unfolding answerOf
 complete branch flags lent skip h = let a = answered Open (λ n i q. q) branch flags lent h in run-complete branch flags (lengthsOf lent) (a .0) skip (a .1) (a .2 .0) (a .2 .1)
+
+-- what is read off the first open path is a model
+pub has-model : (F : Setting) (rs : List Rec) → HasCountermodel F rs → HasModel F (branchOf rs)
+has-model F rs (l, k) = (readOff F (final F rs) l, k .has, 0, k .worldZero, k .satisfied)
 
 in-time : (a : Answer) → InTime a → Proved a ⊎ Open a
 in-time (refusal number place) h = absurd h

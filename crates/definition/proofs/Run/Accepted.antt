@@ -1,21 +1,20 @@
 -- What the checks leave, part by part: a branch that no check refuses.
 use mathlib.Core.Path.{_≡_, refl, _∙_, subst}
-use mathlib.Core.Bool.{Bool, true, false, cond, not}
+use mathlib.Core.Bool.{Bool, true, false, cond}
 use mathlib.Core.List.{List, [], _∷_, _++_}
 use mathlib.Core.Option.{none, some}
-use mathlib.Core.Logic.{_≢_}
 use Prim.Native.Nat.{ℕ, zero, suc, _<_, _≤_, _+_, _/_}
 use native.Mathlib.Omega.{arith}
 use native.Mathlib.Nat.{add-zero}
 use lib.Dec.{eqb, ltb, leb}
-use borrow.Author.Tests.{eqb-false, le-ltb, ltb-false, leb-false}
+use borrow.Author.Tests.{le-ltb, ltb-true, ltb-false, leb-false}
 use lib.ListN.{length, length-append, length-map}
 use Rattle.definition.specs.Limits.{recordLength, mostRecords, mostSize, mostFlags, mostMarked, nodeTrayLength, formulaTrayLength, edgeTrayLength}
 use Rattle.definition.specs.RefusalNumbers.{tooManyRecords, unknownFlag, trayTooShort, unknownKind, badMarkOrField, forwardLink, formulaTooLarge, noMarkedRecord, tooManyMarked, tooManyIdentifiers}
 use Rattle.definition.specs.Lists.{Each, any, all, empty, below}
 use Rattle.definition.specs.Records.{Rec, numberOf, links, recordAt, decode, recAt, marks}
 use Rattle.definition.specs.Checks.{Lengths, LongEnough, Check, isShort, expandedSize, nonZeroField, sheetChecks, flagChecks, trayChecks, checksOfRecord, recordChecks, markChecks, checks, firstOf, refused}
-use Rattle.definition.proofs.Basics.Lists.{or-left, or-right, not-true, cond-both, each-map, all-each, each-append, each-left, each-right, find-each, find-none}
+use Rattle.definition.proofs.Basics.Lists.{or-left, or-right, cond-both, each-map, all-each, each-append, each-left, each-right, find-each, find-none}
 use Rattle.definition.proofs.Basics.Identifiers.{length-from}
 
 -- ---- checks that passed, by their numbers
@@ -147,28 +146,28 @@ pub long-alike : (bytes : List ℕ) (flags : ℕ) (a b : Lengths) → LongEnough
 unfolding refused checks
 long-alike bytes flags a b h k = rw (long-passes a h, long-passes b k) refl
 
--- ---- no check before the run has the number of "full"
-abbrev pub Other : Check → Type 0
-Other c = c .number ≢ tooManyIdentifiers
+-- ---- the checks before the run have the numbers before that of "full"
+abbrev Earlier : Check → Type 0
+Earlier c = c .number < tooManyIdentifiers
 
 -- computed where the list is known
-others : (cs : List Check) → all (λ (c : Check). not (eqb (c .number) tooManyIdentifiers)) cs ≡ true → Each Other cs
-others cs e =
-    each-map (λ (c : Check) (h : not (eqb (c .number) tooManyIdentifiers) ≡ true). eqb-false (c .number) tooManyIdentifiers (not-true _ h)) cs
-    (all-each (λ (c : Check). not (eqb (c .number) tooManyIdentifiers)) cs e)
+earlier : (cs : List Check) → all (λ (c : Check). ltb (c .number) tooManyIdentifiers) cs ≡ true → Each Earlier cs
+earlier cs e =
+    each-map (λ (c : Check) (h : ltb (c .number) tooManyIdentifiers ≡ true). ltb-true (c .number) tooManyIdentifiers h) cs
+    (all-each (λ (c : Check). ltb (c .number) tooManyIdentifiers) cs e)
 
-records-other : (sizes : List ℕ) (rs : List Rec) → Each Other (recordChecks sizes rs)
+records-earlier : (sizes : List ℕ) (rs : List Rec) → Each Earlier (recordChecks sizes rs)
 unfolding recordChecks
-records-other sizes [] = tt
-records-other sizes (r ∷ rs) =
+records-earlier sizes [] = tt
+records-earlier sizes (r ∷ rs) =
     let size = expandedSize sizes r in
-    each-append Other (checksOfRecord (length sizes) size r) (recordChecks (sizes ++ (size ∷ [])) rs) (others (checksOfRecord (length sizes) size r) refl) (records-other (sizes ++ (size ∷ [])) rs)
+    each-append Earlier (checksOfRecord (length sizes) size r) (recordChecks (sizes ++ (size ∷ [])) rs) (earlier (checksOfRecord (length sizes) size r) refl) (records-earlier (sizes ++ (size ∷ [])) rs)
 
-pub refused-other : (bytes : List ℕ) (flags : ℕ) (lent : Lengths) (c : Check) → refused bytes flags lent ≡ some c → c .number ≢ tooManyIdentifiers
+pub refused-earlier : (bytes : List ℕ) (flags : ℕ) (lent : Lengths) (c : Check) → refused bytes flags lent ≡ some c → c .number < tooManyIdentifiers
 unfolding refused checks
-refused-other bytes flags lent =
+refused-earlier bytes flags lent =
     let rs = decode bytes in
     let before = sheetChecks (length bytes) ++ (flagChecks flags ++ trayChecks lent) in
-    find-each Other (λ (d : Check). d .applies) (checks bytes flags lent)
-    (each-append Other before (recordChecks [] rs ++ markChecks rs) (others before refl)
-    (each-append Other (recordChecks [] rs) (markChecks rs) (records-other [] rs) (others (markChecks rs) refl)))
+    find-each Earlier (λ (d : Check). d .applies) (checks bytes flags lent)
+    (each-append Earlier before (recordChecks [] rs ++ markChecks rs) (earlier before refl)
+    (each-append Earlier (recordChecks [] rs) (markChecks rs) (records-earlier [] rs) (earlier (markChecks rs) refl)))

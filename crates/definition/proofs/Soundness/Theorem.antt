@@ -11,7 +11,7 @@ use borrow.Author.Tests.{eqb-true, ne-eqb}
 use lib.ListN.{length}
 use Rattle.definition.specs.Lists.{Each, upFrom, empty}
 use Rattle.definition.specs.Records.{Rec, nobody, isNobody, decode, marks}
-use Rattle.definition.specs.Formula.{formAt}
+use Rattle.definition.specs.Formula.{formAt, branchOf}
 use Rattle.definition.specs.Setting.{Setting, settingOf, partialEquivalence}
 use Rattle.definition.specs.Models.{Model, Has, truth}
 use Rattle.definition.specs.Checks.{Check, refused}
@@ -20,7 +20,7 @@ use Rattle.definition.specs.Tree.{Node, Root, Middle, newNode, nodeAt, p
 use Rattle.definition.specs.Run.{State, step, steps, full, stops, rooted, branchNodes, begun, start, final, enoughSteps}
 use Rattle.definition.specs.Call.{Full, Ended, outcomeOfRun, outcomeBy, outcome, answerOf, answer, lengthsOf}
 use Rattle.definition.specs.Claim.{Proved, NoModel, Demand3}
-use Rattle.definition.proofs.Basics.Lists.{true-false, either, each-map, each-both, each-of-map, upFrom-each}
+use Rattle.definition.proofs.Basics.Lists.{true-false, either, each-map, each-both, each-of-map, each-from-map, upFrom-each}
 use Rattle.definition.proofs.Basics.Records.{marks-known}
 use Rattle.definition.proofs.Tree.Nodes.{Label, label}
 use Rattle.definition.proofs.Tree.Labels.{Every, rooted-every}
@@ -130,13 +130,13 @@ partial F s t r = rw (s, t, r) refl
 
 -- the run of a branch
 run-sound : (F : Setting) (rs : List Rec) → WellFormed rs → empty (marks rs) ≡ false → (test : Setting → State → Bool) (n : ℕ) →
-    length (steps test n F (start F rs) .nodes) ≤ nobody → steps test n F (start F rs) .proved ≡ true → NoModel F rs
+    length (steps test n F (start F rs) .nodes) ≤ nobody → steps test n F (start F rs) .proved ≡ true → NoModel F (branchOf rs)
 unfolding start
 run-sound F rs wf some-marked test n small proved M has w inside reaching holds =
     true-false (sym proved ∙ run-inv F M has w reflexive-here test n (start F rs) (known-start F rs (omega (arith, small, steps-grow test F n (start F rs), start-length F rs))) start-inv small .unproved)
   where
     start-inv : length (start F rs .nodes) ≤ nobody → Inv F M w (start F rs)
-    start-inv few = inv-checked F M w (begun rs) (begun-inv F M w inside rs wf some-marked holds (omega (arith, few, checked-length F (begun rs))))
+    start-inv few = inv-checked F M w (begun rs) (begun-inv F M w inside rs wf some-marked (each-from-map _ (formAt rs) (marks rs) holds) (omega (arith, few, checked-length F (begun rs))))
 
     reflexive-here : F .symmetric ≡ true → F .transitive ≡ true → M .reach w w ≡ true
     reflexive-here s t = go (either (F .reflexive))
@@ -161,11 +161,11 @@ demand-3 branch flags lent proved = go (refused branch flags (lengthsOf lent)) r
     z : State
     z = final F rs
 
-    run : Accepted branch flags (lengthsOf lent) → (b : Bool) → full z ≡ b → Proved (answerOf (settingOf flags) (cond b Full (Ended z))) → NoModel F rs
+    run : Accepted branch flags (lengthsOf lent) → (b : Bool) → full z ≡ b → Proved (answerOf (settingOf flags) (cond b Full (Ended z))) → NoModel F (branchOf rs)
     run a true e p = absurd p
     run a false e p =
         run-sound F rs (λ i h. a .records i h .links) (a .marked) stops enoughSteps (omega (arith, not-full z e)) p
 
-    go : (o : Option Check) → refused branch flags (lengthsOf lent) ≡ o → Proved (answerOf (settingOf flags) (outcomeBy branch flags o)) → NoModel F rs
+    go : (o : Option Check) → refused branch flags (lengthsOf lent) ≡ o → Proved (answerOf (settingOf flags) (outcomeBy branch flags o)) → NoModel F (branchOf rs)
     go (some c) e p = absurd p
     go none e p = run (accepted branch flags (lengthsOf lent) e) (full z) refl p

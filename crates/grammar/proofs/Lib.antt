@@ -1,0 +1,14 @@
+pub mod Connectives
+pub mod Automaton
+pub mod Reader
+pub mod Unique
+pub mod Taking
+pub mod Exact
+pub mod Lexed
+pub mod Texts
+pub mod Continued
+pub mod Room
+pub mod Faithful
+pub mod Decoded
+pub mod Examples
+pub mod Theorems

@@ -1,0 +1,9 @@
+pub mod Tokens
+pub mod Lexing
+pub mod Grammar
+pub mod Reading
+pub mod Lines
+pub mod Automaton
+pub mod Scan
+pub mod Examples
+pub mod Claims

@@ -1,0 +1,4 @@
+pub mod Coding
+pub mod Spelling
+pub mod Stepping
+pub mod Scanning

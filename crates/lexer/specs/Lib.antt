@@ -1,0 +1,5 @@
+pub mod Codes
+pub mod Words
+pub mod Bytes
+pub mod Steps
+pub mod Scanned

@@ -1,0 +1,4 @@
+pub mod Levels
+pub mod Placing
+pub mod Sofar
+pub mod Whole

@@ -1,0 +1,2 @@
+pub mod Diagnosis
+pub mod Showing
