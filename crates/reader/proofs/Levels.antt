@@ -25,7 +25,7 @@ use Rattle.lexer.specs.Words.{Spot, Stands}
 use Rattle.lexer.specs.declared.Word.{Word}
 use Rattle.lexer.specs.declared.Word.the-variants as Word
 use Rattle.lexer.proofs.Word.{the-type}
-use Rattle.reader.specs.Levels.{endOf, countOf, Got, Lost, Steps, Parsed, Grouped, Puts, Joins, JointAt, Closed}
+use Rattle.reader.specs.Levels.{endOf, countOf, Span, Got, Lost, Steps, Parsed, Grouped, Puts, Joins, JointAt, Closed}
 
 put-holds : (before after : List ℕ) (n kind l r : ℕ) (k : Kind) → kind ≡ numberOf k → Puts before after n kind l r → n < mostText → (rs : List Rec) → length rs ≡ n → before ≡ trayOf rs → after ≡ trayOf (rs ++ (rec 0 k l r ∷ []))
 unfolding recordBytes
@@ -90,7 +90,7 @@ got-of (inr g) n = g
 
 pub lost-of : {codes : List ℕ} {at l count : ℕ} {before after : List ℕ} {r : ℕ} → Parsed codes at l count before after r → r ≡ 0 → Lost codes at
 lost-of (inl (_, x)) e = x
-lost-of {count = count} {r = r} (inr g) e = let s : count < countOf r = g .some in absurd (omega arith)
+lost-of {count = count} {r = r} (inr g) e = let s : count < countOf r = g .span .some in absurd (omega arith)
 
 stepped : {codes : List ℕ} {at l count : ℕ} {before after : List ℕ} {r end written : ℕ} → Steps r end written → Got codes at l count before after end written → Got codes at l count before after (endOf r) (countOf r)
 stepped {codes} {at} {l} {count} {before} {after} {r} {end} {written} s g =
@@ -114,12 +114,14 @@ got-name codes at count before after a r s few p t =
       form = atom a;
       takes = subst (λ (v : List Token). Takes 0 v (atom a) (tokensFrom codes (at + 1))) (sym (s .is)) (takes-name a (tokensFrom codes (at + 1)));
       ends = ends-operand (tokensFrom codes (at + 1));
-      moves = omega arith;
-      inside = omega arith;
-      count-is = refl;
-      some = omega arith;
-      few = omega arith;
-      holds = λ rs q b. put-holds before after count 0 a 0 Atomic refl p (omega arith) rs q b;
+      span = record {
+        moves = omega arith;
+        inside = omega arith;
+        count-is = refl;
+        some = omega arith;
+        few = omega arith;
+        holds = λ rs q b. put-holds before after count 0 a 0 Atomic refl p (omega arith) rs q b;
+      };
     }))
 
 -- a sign and its operand
@@ -130,10 +132,10 @@ got-sign codes at count before middle after k m r (s, q, w) few h n p t =
     let end : ℕ = endOf m in
     let written : ℕ = countOf m in
     let ps : List Rec = recordsOf (g .form) 0 count in
-    let c : written ≡ count + length ps = g .count-is in
-    let x : at + 1 < end = g .moves in
-    let y : written + (at + 1) ≤ count + end = g .few in
-    let z : end ≤ mostText = g .inside in
+    let c : written ≡ count + length ps = g .span .count-is in
+    let x : at + 1 < end = g .span .moves in
+    let y : written + (at + 1) ≤ count + end = g .span .few in
+    let z : end ≤ mostText = g .span .inside in
     let rs-is : recordsOf (signed s (g .form)) 0 count ≡ ps ++ (rec 0 (signOf s) (written - 1) 0 ∷ []) =
     sign-records s (g .form) 0 count ∙ ap (λ (i : ℕ). ps ++ (rec 0 (signOf s) (i - 1) 0 ∷ [])) (sym c) in
     inr
@@ -142,14 +144,16 @@ got-sign codes at count before middle after k m r (s, q, w) few h n p t =
       form = signed s (g .form);
       takes = subst (λ (v : List Token). Takes 0 v (signed s (g .form)) (tokensFrom codes end)) (sym (w .is)) (takes-sign s (g .takes));
       ends = g .ends;
-      moves = omega arith;
-      inside = z;
-      count-is = omega (arith, ap length rs-is, length-append ps (rec 0 (signOf s) (written - 1) 0 ∷ []));
-      some = omega (arith, g .some);
-      few = omega arith;
-      holds = λ rs l b.
-          put-holds middle after written k (written - 1) 0 (signOf s) (q ∙ sign-number s) p (omega arith) (rs ++ ps) (omega (arith, length-append rs ps)) (g .holds rs l b)
-          ∙ ap trayOf (append-assoc rs ps (rec 0 (signOf s) (written - 1) 0 ∷ []) ∙ ap (λ (v : List Rec). rs ++ v) (sym rs-is));
+      span = record {
+        moves = omega arith;
+        inside = z;
+        count-is = omega (arith, ap length rs-is, length-append ps (rec 0 (signOf s) (written - 1) 0 ∷ []));
+        some = omega (arith, g .span .some);
+        few = omega arith;
+        holds = λ rs l b.
+            put-holds middle after written k (written - 1) 0 (signOf s) (q ∙ sign-number s) p (omega arith) (rs ++ ps) (omega (arith, length-append rs ps)) (g .span .holds rs l b)
+            ∙ ap trayOf (append-assoc rs ps (rec 0 (signOf s) (written - 1) 0 ∷ []) ∙ ap (λ (v : List Rec). rs ++ v) (sym rs-is));
+      };
     }))
 
 -- a formula in brackets
@@ -157,7 +161,7 @@ pub got-brackets : (codes : List ℕ) (at count : ℕ) (before after : List ℕ)
     Spot codes (endOf m) closing → Steps r (endOf m + 1) (countOf m) → Parsed codes at 0 count before after r
 got-brackets codes at count before after m r w h n v t =
     let g = got-of h n in
-    let c : at + 1 < endOf m = g .moves in
+    let c : at + 1 < endOf m = g .span .moves in
     let i : endOf m < mostText = v .inside in
     inr
     (stepped t
@@ -165,12 +169,14 @@ got-brackets codes at count before after m r w h n v t =
       form = g .form;
       takes = subst (λ (u : List Token). Takes 0 u (g .form) (tokensFrom codes (endOf m + 1))) (sym (w .is)) (takes-brackets (subst (λ (u : List Token). Takes loosest (tokensFrom codes (at + 1)) (g .form) u) (v .is) (g .takes)));
       ends = ends-operand (tokensFrom codes (endOf m + 1));
-      moves = omega arith;
-      inside = omega arith;
-      count-is = g .count-is;
-      some = g .some;
-      few = omega (arith, g .few);
-      holds = g .holds;
+      span = record {
+        moves = omega arith;
+        inside = omega arith;
+        count-is = g .span .count-is;
+        some = g .span .some;
+        few = omega (arith, g .span .few);
+        holds = g .span .holds;
+      };
     }))
 
 -- ---- where no phrase is read
@@ -239,12 +245,7 @@ pub record Going (codes : List ℕ) (at k count : ℕ) (before after : List ℕ)
   pub takes : Takes (suc k) (tokensFrom codes at) form (tokensFrom codes end)
   pub first : (j : Joint) → level j ≡ suc k → side j ≡ rightward → Takes k (tokensFrom codes at) form (tokensFrom codes end)
   pub ends : Ends k (tokensFrom codes end)
-  pub moves : at < end
-  pub inside : end ≤ mostText
-  pub count-is : written ≡ count + length (recordsOf form 0 count)
-  pub some : count < written
-  pub few : written + at ≤ count + end
-  pub holds : (rs : List Rec) → length rs ≡ count → before ≡ trayOf rs → after ≡ trayOf (rs ++ recordsOf form 0 count)
+  pub span : Span codes at count before after form end written
 
 pub going-start : {codes : List ℕ} {at k count : ℕ} {before after : List ℕ} {end written : ℕ} → Got codes at k count before after end written → Going codes at k count before after end written
 going-start g = record {
@@ -252,12 +253,7 @@ going-start g = record {
   takes = takes-single (g .takes);
   first = λ j e s. g .takes;
   ends = g .ends;
-  moves = g .moves;
-  inside = g .inside;
-  count-is = g .count-is;
-  some = g .some;
-  few = g .few;
-  holds = g .holds;
+  span = g .span;
 }
 
 -- no joint of the level follows
@@ -268,38 +264,25 @@ going-end {codes} {at} {k} {l} {count} {before} {after} {end} {written} q g h =
       form = g .form;
       takes = subst (λ (i : ℕ). Takes i (tokensFrom codes at) (g .form) (tokensFrom codes end)) (sym q) (g .takes);
       ends = h k q (g .ends);
-      moves = g .moves;
-      inside = g .inside;
-      count-is = g .count-is;
-      some = g .some;
-      few = g .few;
-      holds = g .holds;
+      span = g .span;
     }
 
 -- a joint and what stands on its right
-record Joined (codes : List ℕ) (at count : ℕ) (before after : List ℕ) (f : Form) (end written : ℕ) : Type 0 where
-  moves : at < end
-  inside : end ≤ mostText
-  count-is : written + 1 ≡ count + length (recordsOf f 0 count)
-  some : count < written + 1
-  few : (written + 1) + at ≤ count + end
-  holds : (rs : List Rec) → length rs ≡ count → before ≡ trayOf rs → after ≡ trayOf (rs ++ recordsOf f 0 count)
-
 join : (codes : List ℕ) (at k l count : ℕ) (before a b after : List ℕ) (j : Joint) (end written end₂ written₂ kind : ℕ) → count ≤ at → (g : Going codes at k count before a end written) → kind ≡ jointKind j →
-    (h : Got codes (end + 1) l written a b end₂ written₂) → Puts b after written₂ kind (written - 1) (written₂ - 1) → Joined codes at count before after (joined j (g .form) (h .form)) end₂ written₂
+    (h : Got codes (end + 1) l written a b end₂ written₂) → Puts b after written₂ kind (written - 1) (written₂ - 1) → Span codes at count before after (joined j (g .form) (h .form)) end₂ (written₂ + 1)
 join codes at k l count before a b after j end written end₂ written₂ kind few g q h p =
     let ps : List Rec = recordsOf (g .form) 0 count in
     let qs : List Rec = recordsOf (h .form) 0 written in
     let last : List Rec = rec 0 (jointOf j) (written - 1) (written₂ - 1) ∷ [] in
-    let c : written ≡ count + length ps = g .count-is in
-    let d : written₂ ≡ written + length qs = h .count-is in
-    let gm : at < end = g .moves in
-    let hm : end + 1 < end₂ = h .moves in
-    let hi : end₂ ≤ mostText = h .inside in
-    let gf : written + at ≤ count + end = g .few in
-    let hf : written₂ + (end + 1) ≤ written + end₂ = h .few in
-    let gs : count < written = g .some in
-    let hs : written < written₂ = h .some in
+    let c : written ≡ count + length ps = g .span .count-is in
+    let d : written₂ ≡ written + length qs = h .span .count-is in
+    let gm : at < end = g .span .moves in
+    let hm : end + 1 < end₂ = h .span .moves in
+    let hi : end₂ ≤ mostText = h .span .inside in
+    let gf : written + at ≤ count + end = g .span .few in
+    let hf : written₂ + (end + 1) ≤ written + end₂ = h .span .few in
+    let gs : count < written = g .span .some in
+    let hs : written < written₂ = h .span .some in
     let rs-is : recordsOf (joined j (g .form) (h .form)) 0 count ≡ (ps ++ qs) ++ last =
     joint-records j (g .form) (h .form) 0 count ∙ placed-at (jointOf j) ps (recordsOf (h .form) 0) count written written₂ c d in
     record {
@@ -310,7 +293,7 @@ join codes at k l count before a b after j end written end₂ written₂ kind fe
       few = omega arith;
       holds = λ rs x y.
           put-holds b after written₂ kind (written - 1) (written₂ - 1) (jointOf j) (q ∙ joint-number j) p (omega arith) ((rs ++ ps) ++ qs) (omega (arith, length-append (rs ++ ps) qs, length-append rs ps))
-          (h .holds (rs ++ ps) (omega (arith, length-append rs ps)) (g .holds rs x y))
+          (h .span .holds (rs ++ ps) (omega (arith, length-append rs ps)) (g .span .holds rs x y))
           ∙ ap trayOf (ap (λ (v : List Rec). v ++ last) (append-assoc rs ps qs) ∙ append-assoc rs (ps ++ qs) last ∙ ap (λ (v : List Rec). rs ++ v) (sym rs-is));
     }
   where
@@ -335,12 +318,7 @@ going-next codes at k count before a b after end written end₂ written₂ kind 
       takes = takes-left j f sd (after-joint codes at (suc k) (suc k) end x (g .takes)) (h .takes);
       first = λ i e s. absurd (one-side j i (suc k) f e sd s);
       ends = h .ends;
-      moves = z .moves;
-      inside = z .inside;
-      count-is = z .count-is;
-      some = z .some;
-      few = z .few;
-      holds = z .holds;
+      span = z;
     }
 
 -- a joint that groups to the right
@@ -355,12 +333,7 @@ got-right codes at k count before a b after end written end₂ written₂ kind f
       form = joined j (g .form) (h .form);
       takes = takes-right j f sd (after-joint codes at k (suc k) end x (g .first j f sd)) (h .takes);
       ends = h .ends;
-      moves = z .moves;
-      inside = z .inside;
-      count-is = z .count-is;
-      some = z .some;
-      few = z .few;
-      holds = z .holds;
+      span = z;
     }
 
 pub lost-later : (codes : List ℕ) (at k l count : ℕ) (before a : List ℕ) (end written kind : ℕ) → Going codes at k count before a end written → Joins codes end l kind → Lost codes (end + 1) → Lost codes at
@@ -381,7 +354,7 @@ pub record Bounds (at count r : ℕ) : Type 0 where
   pub few : countOf r + at ≤ count + endOf r
 
 pub bounds : {codes : List ℕ} {at l count : ℕ} {before after : List ℕ} {r : ℕ} → Parsed codes at l count before after r → (r ≡ 0 → ⊥) → Bounds at count r
-bounds h n = let g = got-of h n in record { moves = g .moves; inside = g .inside; some = g .some; few = g .few }
+bounds h n = let g = got-of h n in record { moves = g .span .moves; inside = g .span .inside; some = g .span .some; few = g .span .few }
 
 -- the joints so far, from where the first phrase ends
 pub record Adding (codes : List ℕ) (first l : ℕ) (begun tray : List ℕ) (left : ℕ) : Type 0 where
@@ -431,9 +404,9 @@ module _ {codes : List ℕ} {first l : ℕ} {begun tray : List ℕ} {left e kind
       Puts b after (countOf right) kind (countOf left - 1) (countOf right - 1) → Steps r (endOf right) (countOf right + 1) → Adding codes first l begun after r
   adding-next d b after right r up low v h m p t =
       let g = got-of (parsed-by w v h) m in
-      let gm : endOf left + 1 < endOf right = g .moves in
-      let gi : endOf right ≤ mostText = g .inside in
-      let gf : countOf right + (endOf left + 1) ≤ countOf left + endOf right = g .few in
+      let gm : endOf left + 1 < endOf right = g .span .moves in
+      let gi : endOf right ≤ mostText = g .span .inside in
+      let gf : countOf right + (endOf left + 1) ≤ countOf left + endOf right = g .span .few in
       let ip : endOf first ≤ endOf left = inv .past in
       let fw : countOf left ≤ endOf left = inv .few in
       let te : endOf r ≡ endOf right = t .end-is in

@@ -86,10 +86,10 @@ pub reading-next : (codes tray middle after : List ℕ) (at count step written n
 unfolding linesFrom
 reading-next codes tray middle after at count step written next s h n w e mk =
     let g = got-of h n in
-    let gm : at < endOf step = g .moves in
-    let gi : endOf step ≤ mostText = g .inside in
-    let gf : countOf step + at ≤ count + endOf step = g .few in
-    let gs : count < countOf step = g .some in
+    let gm : at < endOf step = g .span .moves in
+    let gi : endOf step ≤ mostText = g .span .inside in
+    let gf : countOf step + at ≤ count + endOf step = g .span .few in
+    let gs : count < countOf step = g .span .some in
     let sf : count ≤ at = s .few in
     record {
       inside = omega arith;
@@ -108,7 +108,7 @@ reading-next codes tray middle after at count step written next s h n w e mk =
         rs = recordsOf p 1 count
 
         count-is : written ≡ count + length (recordsOf p 0 count)
-        count-is = w ∙ g .count-is
+        count-is = w ∙ g .span .count-is
 
         written-is : written ≡ count + length rs
         written-is = omega (arith, count-is, length-marked p 1 count)
@@ -116,12 +116,12 @@ reading-next codes tray middle after at count step written next s h n w e mk =
         go : (us : List Token) × (tokensFrom codes (endOf step) ≡ newline ∷ us) × Accepted us → Sofar codes after (next + 1) written
         go (us, q, a) =
             let same : us ≡ tokensFrom codes (next + 1) = from-cons codes (endOf step) newline us q ∙ ap (λ (i : ℕ). tokensFrom codes (i + 1)) (sym e) in
-            let gf : countOf step + at ≤ count + endOf step = g .few in
-            let gi : endOf step ≤ mostText = g .inside in
+            let gf : countOf step + at ≤ count + endOf step = g .span .few in
+            let gi : endOf step ≤ mostText = g .span .inside in
             record {
               records = x .records ++ rs;
               length-is = length-append (x .records) rs ∙ ap (λ (i : ℕ). i + length rs) (x .length-is) ∙ sym written-is;
-              holds = mk (omega (arith, w, g .few, g .inside, few)) ∙ ap (λ (v : List ℕ). set v (recordLength * (written - 1) + 1) 1) (g .holds (x .records) (x .length-is) (x .holds)) ∙ marks (x .records) p count written (x .length-is) count-is;
+              holds = mk (omega (arith, w, g .span .few, g .span .inside, few)) ∙ ap (λ (v : List ℕ). set v (recordLength * (written - 1) + 1) 1) (g .span .holds (x .records) (x .length-is) (x .holds)) ∙ marks (x .records) p count written (x .length-is) count-is;
               left = subst Accepted same a;
               texts = λ ps t.
                   let z = x .texts (p ∷ ps) (text-line (subst (λ (v : List Token). Takes loosest (tokensFrom codes at) p v) (q ∙ ap (λ (v : List Token). newline ∷ v) same) (g .takes)) t) in

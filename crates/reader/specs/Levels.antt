@@ -36,17 +36,21 @@ pub record Steps (r end count : ℕ) : Type 0 where
   pub end-is : endOf r ≡ end
   pub count-is : countOf r ≡ count
 
--- a phrase of the level is read from `at` to `end`, and its records are in the tray
-pub record Got (codes : List ℕ) (at l count : ℕ) (before after : List ℕ) (end written : ℕ) : Type 0 where
-  pub form : Form
-  pub takes : Takes l (tokensFrom codes at) form (tokensFrom codes end)
-  pub ends : Ends l (tokensFrom codes end)
+-- a formula is read from `at` to `end`, and its records are in the tray, behind `count` others
+pub record Span (codes : List ℕ) (at count : ℕ) (before after : List ℕ) (form : Form) (end written : ℕ) : Type 0 where
   pub moves : at < end
   pub inside : end ≤ mostText
   pub count-is : written ≡ count + length (recordsOf form 0 count)
   pub some : count < written
   pub few : written + at ≤ count + end
   pub holds : (rs : List Rec) → length rs ≡ count → before ≡ trayOf rs → after ≡ trayOf (rs ++ recordsOf form 0 count)
+
+-- it is a phrase of the level
+pub record Got (codes : List ℕ) (at l count : ℕ) (before after : List ℕ) (end written : ℕ) : Type 0 where
+  pub form : Form
+  pub takes : Takes l (tokensFrom codes at) form (tokensFrom codes end)
+  pub ends : Ends l (tokensFrom codes end)
+  pub span : Span codes at count before after form end written
 
 -- no phrase begins there: somewhere the tokens can't go on
 abbrev pub Lost : List ℕ → ℕ → Type 0
