@@ -89,8 +89,13 @@ fn rust(input : &Input, branch : &Vec<Formula>) -> (Answer, Duration)
     let time = start.elapsed();
     let answer = match outcome
     {
-        Ok(tree) => Answer::Verdict { proved:tree.is_proof_correct, late:tree.has_timeout, ids:tree.node_factory.clone().new_node_id(),
-            worlds:tree.modality_graph.nodes().len(), steps:recorder::take().steps },
+        Ok(tree) =>
+        {
+            //late by document 02's condition, as in oracle/answer.py
+            let (record, proved) = (recorder::take(), tree.is_proof_correct);
+            Answer::Verdict { proved, late:tree.has_timeout && !proved && record.waits, ids:tree.node_factory.clone().new_node_id(),
+                worlds:tree.modality_graph.nodes().len(), steps:record.steps }
+        }
         Err(payload) if payload.is::<recorder::Full>() => Answer::Full,
         Err(payload) => std::panic::resume_unwind(payload),
     };

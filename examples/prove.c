@@ -18,9 +18,9 @@ static void say(uint64_t answer) {
         printf("refused: number %d, record %u\n", (int)wozhnerk_refusal_number(answer), wozhnerk_refusal_record(answer));
         return;
     }
-    printf("%s%s%s: %u identifiers, %u formulas, %u worlds, %u steps\n", wozhnerk_proved(answer) ? "proved" : "",
-           wozhnerk_late(answer) ? " late" : "", wozhnerk_proved(answer) || wozhnerk_late(answer) ? "" : "open",
-           wozhnerk_identifiers(answer), wozhnerk_formulas(answer), wozhnerk_worlds(answer), wozhnerk_steps(answer));
+    printf("%s: %u identifiers, %u formulas, %u worlds, %u steps\n",
+           wozhnerk_proved(answer) ? "proved" : wozhnerk_late(answer) ? "late" : "open", wozhnerk_identifiers(answer),
+           wozhnerk_formulas(answer), wozhnerk_worlds(answer), wozhnerk_steps(answer));
 }
 
 static void prove(const uint8_t *branch, size_t length, uint8_t flags) {

@@ -49,7 +49,8 @@ fn say(answer: Answer) {
         Answer::Refusal { number: 13, place } => println!("garbled at byte {place}"),
         Answer::Refusal { number, place } => println!("refused: number {number}, record {place}"),
         Answer::Verdict { proved, late, identifiers, formulas, worlds, steps } => println!(
-            "proved {proved}, late {late}: {identifiers} identifiers, {formulas} formulas, {worlds} worlds, {steps} steps"),
+            "{}: {identifiers} identifiers, {formulas} formulas, {worlds} worlds, {steps} steps",
+            if proved { "proved" } else if late { "late" } else { "open" }),
     }
 }
 

@@ -82,19 +82,20 @@ enum wozhnerk_refusal {
  *    512 identifiers;
  * 3. if the answer is a verdict with `proved`, no world of any finite Kripke model with the flagged properties makes every
  *    formula of the branch true (symmetric and transitive without reflexive: no world that reaches some world);
- * 4. if the answer is a verdict that is open, neither `proved` nor `late`, and WOZHNERK_SKIP_CONTRADICTION_CHECKS is not
- *    set, some world of a finite Kripke model with the flagged properties makes every formula of the branch true. So,
- *    without that flag, a verdict that is not late is `proved` exactly if there is no such model (not so for symmetric and
- *    transitive without reflexive: docs/DIFFERENCES.md). Of late verdicts, of refusals (12 included) and with the checks
- *    skipped nothing of this is said.
+ * 4. a verdict is `late` exactly if the world limit is reached (25 worlds exist), it is not `proved` and a node still waits:
+ *    the run is unfinished. So a verdict that is open, neither `proved` nor `late`, is finished: no node waits;
+ * 5. if the answer is a verdict that is open, and WOZHNERK_SKIP_CONTRADICTION_CHECKS is not set, some world of a finite
+ *    Kripke model with the flagged properties makes every formula of the branch true. So, without that flag, a verdict that
+ *    is not late is `proved` exactly if there is no such model (not so for symmetric and transitive without reflexive:
+ *    docs/DIFFERENCES.md). Of late verdicts, of refusals (12 included) and with the checks skipped nothing of this is said.
  * Where the branch is the rules in force and the denial of a claim, proved: the claim follows; open: the claim does not
- * follow; there is a case that meets every rule and denies it.
+ * follow; there is a case that meets every rule and denies it; late: undecided.
  *
  * The answer is one number.
  *   verdict   bit 63 is 0; bits 0-15 identifiers, 16-31 formulas, 32-47 steps, 48-55 worlds, 56 proved, 57 late
  *   refusal   bit 63 is 1; bits 0-15 record number (0 outside refusals 6 to 9; the offset, of 13), 16-31 number
  * Read no other bits: they are 0 today, and the contract does not speak of them.
- * Proved and late may both be true. A verdict with neither is open. */
+ * A verdict has one word: proved, late or open. Bits 56 and 57 are never both 1; with neither it is open. */
 uint64_t wozhnerk_prove(const uint8_t *branch, size_t branch_length, uint8_t flags, uint8_t *nodes, size_t nodes_length,
                         uint8_t *formulas, size_t formulas_length, uint32_t *edges, size_t edges_length);
 

@@ -11,13 +11,23 @@ def ask(binary, lines, max_work=0):
     out = subprocess.run([binary], input="".join(text + "\n" for text in lines), env=dict(os.environ, ORACLE_MAX_WORK=str(max_work)),
                          stdout=subprocess.PIPE, text=True, check=True).stdout.split("\n")[:-1]
     assert len(out) == len(lines)
-    return [json.loads(text) if text.startswith("{") else text for text in out]
+    return [read(text) for text in out]
+
+
+def read(line):
+    """An output line of the oracle: a word, or a dict with `late` in it. The Rust's own value, `timeout`, says that the world limit
+    is reached; it is put through document 02's condition: late is "the world limit is reached, proved is false and a node still waits"."""
+    if not line.startswith("{"):
+        return line
+    answer = json.loads(line)
+    answer["late"] = answer["timeout"] and not answer["proved"] and answer["waits"]
+    return answer
 
 
 def verdict(answer):
     if isinstance(answer, str):
         return answer
-    return {(0, 0): "open", (1, 0): "proved", (0, 1): "late", (1, 1): "both"}[answer["proved"], answer["late"]]
+    return "proved" if answer["proved"] else "late" if answer["late"] else "open"
 
 
 def text_of(answer):

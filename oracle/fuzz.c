@@ -38,7 +38,7 @@ static uint8_t noise[16 * PAGE], before[ROOM];
 static uint8_t branch[LONGEST_BRANCH], text[ROOM], flags; /* branch: the records read, for typed rules */
 static size_t length, text_length;
 static int typed;
-static unsigned long calls, call, seed, refusals[15], verdicts[4], at_512, offsets;
+static unsigned long calls, call, seed, refusals[15], verdicts[3], at_512, proved_at_limit, offsets;
 static uint64_t state, answer;
 
 static unsigned below(unsigned n) { /* splitmix64 */
@@ -387,7 +387,12 @@ static void check_verdict(void) {
     if (answer >> 58 != 0) fail("a bit that must be zero is not");
     if (ids == 0 || ids > 512 || count < length / 6 || count > 1280 || worlds > 25 || wozhnerk_steps(answer) > ids)
         fail("a count is out of range");
-    if (wozhnerk_late(answer) != (worlds == 25)) fail("late is not what the count of worlds says");
+    /* a node waits: an identifier that no step has taken */
+    bool waits = wozhnerk_steps(answer) < ids, proved = wozhnerk_proved(answer), late = wozhnerk_late(answer);
+    if (late != (worlds == 25 && !proved && waits)) fail("late is not what the counts say");
+    if (worlds == 25 && !waits) fail("no node waits at the world limit");
+    if (!proved && !late && waits) fail("a node of an open verdict waits");
+    if (proved && worlds == 25) proved_at_limit++;
     if (memcmp(lent[FORMULAS].at, branch, length) != 0) fail("the formula tray does not start with the branch");
     zero(NODES, 12 * ids);
     zero(FORMULAS, 6 * count);
@@ -403,7 +408,7 @@ static void check_verdict(void) {
     }
     for (unsigned u = 0; u < worlds; u++)
         if (((const uint32_t *)(const void *)lent[EDGES].at)[u] >> worlds != 0) fail("an edge leads to no world");
-    verdicts[wozhnerk_proved(answer) + 2 * wozhnerk_late(answer)]++;
+    verdicts[proved + 2 * late]++;
     at_512 += ids == 512;
 }
 
@@ -608,7 +613,7 @@ static uint8_t *guarded(size_t bytes) {
 }
 
 int main(int argc, char **argv) {
-    static const char *names[] = {"open", "proved", "late", "both"};
+    static const char *names[] = {"open", "proved", "late"};
     unsigned met = 0;
     pthread_attr_t attributes;
     pthread_t thread;
@@ -632,13 +637,13 @@ int main(int argc, char **argv) {
     pthread_attr_setstack(&attributes, stack, STACK);
     if (pthread_create(&thread, &attributes, run, NULL) != 0 || pthread_join(thread, NULL) != 0) return 2;
 
-    for (int i = 0; i < 4; i++) met += verdicts[i] != 0, printf("%-10s %8lu\n", names[i], verdicts[i]);
+    for (int i = 0; i < 3; i++) met += verdicts[i] != 0, printf("%-10s %8lu\n", names[i], verdicts[i]);
     for (int i = 1; i <= (typed ? 14 : 12); i++) met += refusals[i] != 0, printf("refusal %-2d %8lu\n", i, refusals[i]);
     size_t untouched = 0;
     while (untouched < STACK && view[untouched] == 0) untouched++;
     /* of a text that is read no record is torn, unknown, stray, forward, or larger than all of them, and some are marked */
-    printf("%lu calls, seed %lu, no fault; %u of %d outcomes met; %lu runs at 512 identifiers; at most %zu bytes of stack\n", calls, seed,
-           met, typed ? 12 : 16, at_512, STACK - untouched);
+    printf("%lu calls, seed %lu, no fault; %u of %d outcomes met; %lu runs at 512 identifiers; %lu proved at 25 worlds; at most %zu bytes of stack\n", calls,
+           seed, met, typed ? 11 : 15, at_512, proved_at_limit, STACK - untouched);
     if (typed) printf("%lu offsets tried by continuing the text\n", offsets);
     return 0;
 }

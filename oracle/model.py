@@ -1,5 +1,6 @@
 """An executable model of document 01: one call takes a branch, a flag byte and tray lengths, and returns a refusal or a
-verdict with the exact contents of the three trays. Quotations are document 01's; the sections follow its order."""
+verdict with the exact contents of the three trays. Quotations are document 01's, where no other is named; the sections follow
+its order. What document 02 changes is changed in its place."""
 from dataclasses import dataclass, field
 
 # ---- What enters -------------------------------------------------------------------------------------------------
@@ -115,7 +116,8 @@ def leave(run):
                      + word(n.contrarian) + bytes([n.contradictory, 0]) for n in run.nodes)
     formulas = b"".join(bytes([kind, mark]) + word(a) + word(b) for kind, mark, a, b in run.formulas)
     edges = [sum(1 << v for v in range(EDGE_TRAY) if (u, v) in run.edges) for u in range(EDGE_TRAY)]
-    late = len(run.worlds) >= MAX_WORLDS                # "at the end if 25 worlds exist, even beside proved"
+    # document 02: "late is set exactly if the world limit is reached, proved is false and a node still waits"
+    late = len(run.worlds) >= MAX_WORLDS and not run.proved and len(run.queue) > 0
     return Answer(None, run.proved, late, len(run.nodes), len(run.formulas), len(run.worlds), run.steps,
                   nodes.ljust(NODE_TRAY, b"\0"), formulas.ljust(FORMULA_TRAY, b"\0"), edges)
 

@@ -1,10 +1,11 @@
 #!/usr/bin/env python3
 """model_compare.py ORACLE SEED COUNT [STYLE..]: random branches in several styles through the model and the Rust oracle;
 every verdict, count, node field (formulas as written-out text) and edge is compared. Prints per style: cases, full,
-slow (not compared), proved, late, both, differences."""
-import json, os, random, subprocess, sys
+slow (not compared), proved, late, at the world limit, differences. Late is compared after document 02's condition (answer.read)."""
+import os, random, subprocess, sys
 from collections import Counter
 import model
+from answer import read
 
 PLACES = ["root", "left", "middle", "right", "unplaced"]
 LETTERS = "ANCDIBSPL"
@@ -204,14 +205,14 @@ def main():
             if line == "slow":
                 tally["slow"] += 1
                 continue
-            theirs = line
-            if line.startswith("{"):
-                theirs = json.loads(line)
+            theirs = read(line)
+            if isinstance(theirs, dict):
                 for node in theirs["nodes"]:
                     node.pop()      # the step
                 tally["proved"] += theirs["proved"]
                 tally["late"] += theirs["late"]
-                tally["both"] += theirs["proved"] and theirs["late"]
+                tally["at the limit"] += theirs.pop("timeout")
+                assert theirs.pop("waits") == (theirs["steps"] < theirs["ids"])
                 tally["unplaced"] += any(n[2] == "unplaced" for n in theirs["nodes"])
                 tally["ids>=500"] += theirs["ids"] >= 500
                 tally["ids=512"] += theirs["ids"] == 512

@@ -63,8 +63,8 @@ fn run(line : &str) -> String
     collect(&tree.root_node, None, "root", &mut placed);
 
     let mut out = String::new();
-    write!(out, "{{\"proved\":{},\"late\":{},\"ids\":{},\"worlds\":{},\"steps\":{},\"edges\":[",
-        tree.is_proof_correct, tree.has_timeout, issued, tree.modality_graph.nodes().len(), record.steps).unwrap();
+    write!(out, "{{\"proved\":{},\"timeout\":{},\"waits\":{},\"ids\":{},\"worlds\":{},\"steps\":{},\"edges\":[",
+        tree.is_proof_correct, tree.has_timeout, record.waits, issued, tree.modality_graph.nodes().len(), record.steps).unwrap();
     for (i, v) in tree.modality_graph.vertices().enumerate()
     {
         write!(out, "{}[{},{}]", if i > 0 { "," } else { "" }, v.from.index, v.to.index).unwrap();

@@ -13,7 +13,7 @@ pub const LIMIT : usize = 512;
 pub struct Seen { pub world : u8, pub formula : String, pub spawner : Option<usize>, pub step : usize }
 
 #[derive(Default)]
-pub struct Recorder { pub seen : Vec<Option<Seen>>, pub steps : usize, pub last_block : Option<u64> }
+pub struct Recorder { pub seen : Vec<Option<Seen>>, pub steps : usize, pub waits : bool, pub last_block : Option<u64> }
 
 thread_local! { static RECORDER : RefCell<Recorder> = RefCell::new(Recorder::default()); }
 thread_local! { static QUIET : Cell<bool> = const { Cell::new(false) }; }
@@ -34,6 +34,9 @@ pub fn step()
     });
     if slow { std::panic::resume_unwind(Box::new(Slow)); }
 }
+
+//whether a node waits, asked of the queue after each push: the last answer is that of the end of the run
+pub fn waits(waits : bool) { RECORDER.with(|r| r.borrow_mut().waits = waits); }
 
 pub fn take() -> Recorder { return RECORDER.with(|r| std::mem::take(&mut *r.borrow_mut())); }
 

@@ -78,9 +78,6 @@ fn letter(proved: bool, late: bool) -> u8
     ensures { λ r. ⌜ r ≡ verdictLetter proved late ⌝ }
 {
     if proved {
-        if late {
-            return b'b';
-        }
         return b'p';
     }
     if late {

@@ -9,5 +9,7 @@ pub mod Room
 pub mod Trays
 -- Outcomes: what a call's outcome tells of the run.
 pub mod Outcomes
+-- Late: at the limit of worlds a node waits; of an open verdict none does.
+pub mod Late
 -- Cases: the tables of specs/Cases and specs/Refusals, computed.
 pub mod Cases

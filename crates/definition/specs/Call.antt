@@ -1,5 +1,5 @@
 -- The whole call: what it answers to a byte string, a flag byte and three lent trays, and what the trays then hold.
-use mathlib.Core.Bool.{Bool, cond}
+use mathlib.Core.Bool.{Bool, _&&_, not, cond}
 use mathlib.Core.List.{List}
 use mathlib.Core.Option.{Option, none, some}
 use Prim.Native.Nat.{ℕ}
@@ -7,6 +7,7 @@ use lib.Dec.{leb}
 use lib.ListN.{length}
 use Rattle.definition.specs.Limits.{worldLimit}
 use Rattle.definition.specs.RefusalNumbers.{tooManyIdentifiers}
+use Rattle.definition.specs.Lists.{empty}
 use Rattle.definition.specs.Records.{decode}
 use Rattle.definition.specs.Setting.{Setting, settingOf}
 use Rattle.definition.specs.Checks.{Lengths, Check, refused}
@@ -29,9 +30,9 @@ outcomeBy bytes flags none = outcomeOfRun (final (settingOf flags) (decode bytes
 unfoldable pub outcome : List ℕ → ℕ → Lengths → Outcome
 outcome bytes flags lent = outcomeBy bytes flags (refused bytes flags lent)
 
--- "Late is set at the end if 25 worlds exist, even beside proved"
+-- document 02: "late is set exactly if the world limit is reached, proved is false and a node still waits"
 unfoldable pub late : Setting → State → Bool
-late F s = leb worldLimit (s .graph .worlds)
+late F s = leb worldLimit (s .graph .worlds) && (not (s .proved) && not (empty (s .waiting)))
 
 -- "one verdict or one refusal": a refusal's number and record number; or
 -- "proved, late, and the counts of identifiers, formulas (input and made), worlds and steps"

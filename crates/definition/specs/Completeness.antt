@@ -1,5 +1,5 @@
 -- What a verdict says beyond demand 3, where contradiction checks were not skipped: an open one has a model, and one that is not late is exact.
--- Document 01 claims neither.
+-- The papers claim neither.
 use mathlib.Core.Path.{_≡_}
 use mathlib.Core.Bool.{false}
 use mathlib.Core.List.{List}
@@ -11,19 +11,10 @@ use Rattle.definition.specs.Setting.{Setting, settingOf, partialEquivale
 use Rattle.definition.specs.Models.{Model, Has}
 use Rattle.definition.specs.Run.{final}
 use Rattle.definition.specs.Trays.{Trays}
-use Rattle.definition.specs.Call.{Answer, refusal, verdict, answer}
+use Rattle.definition.specs.Call.{answer}
 use Rattle.definition.specs.Claim.{Proved, Satisfied, NoModel}
+use Rattle.definition.specs.Finished.{InTime, Open}
 use Rattle.definition.specs.Countermodel.{Countermodel}
-
--- a verdict that is not late
-abbrev pub InTime : Answer → Type 0
-InTime (refusal number place) = ⊥
-InTime (verdict v) = v .late ≡ false
-
--- "Open means neither", proved nor late
-abbrev pub Open : Answer → Type 0
-Open (refusal number place) = ⊥
-Open (verdict v) = (v .proved ≡ false) × (v .late ≡ false)
 
 -- at the end of the run, the model read off the first open path is one of the branch
 abbrev pub HasCountermodel : Setting → List Rec → Type 0

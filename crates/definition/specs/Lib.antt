@@ -21,6 +21,7 @@ pub mod Trays
 pub mod Fits
 pub mod Call
 pub mod Claim
+pub mod Finished
 pub mod Cases
 pub mod Refusals
 pub mod Countermodel

@@ -76,8 +76,7 @@ put-number {text} {mid} {now} {at} {next} {r} {after} n k s h f e p q = (
 
 length-word : (p l : Bool) → length (wordOf p l ++ (32 ∷ [])) ≤ 7
 unfolding wordOf
-length-word true true = omega arith
-length-word true false = omega arith
+length-word true l = omega arith
 length-word false true = omega arith
 length-word false false = omega arith
 

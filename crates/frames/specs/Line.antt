@@ -1,4 +1,4 @@
--- The text of a line: "flags 0 to 7, verdict (open, proved, late, both), identifiers, worlds, steps. A refusal prints flags, `refused`, number, place."
+-- The text of a line: "flags 0 to 7, verdict (open, proved, late (..)), identifiers, worlds, steps. A refusal prints flags, `refused`, number, place."
 use mathlib.Core.Bool.{Bool, true, false}
 use mathlib.Core.List.{List, [], _∷_}
 use Prim.Native.Nat.{ℕ}
@@ -9,7 +9,7 @@ use Rattle.slices.specs.Text.{decimalOf, lineOfWords}
 abbrev pub lineLength : ℕ
 lineLength = 96
 
--- "open", "proved", "late", "both", "refused" in ASCII
+-- "open", "proved", "late", "refused" in ASCII
 abbrev pub openWord : List ℕ
 openWord = 111 ∷ 112 ∷ 101 ∷ 110 ∷ []
 
@@ -19,18 +19,14 @@ provedWord = 112 ∷ 114 ∷ 111 ∷ 118 ∷ 101 ∷ 100 ∷ []
 abbrev pub lateWord : List ℕ
 lateWord = 108 ∷ 97 ∷ 116 ∷ 101 ∷ []
 
-abbrev pub bothWord : List ℕ
-bothWord = 98 ∷ 111 ∷ 116 ∷ 104 ∷ []
-
 abbrev pub refusedWord : List ℕ
 refusedWord = 114 ∷ 101 ∷ 102 ∷ 117 ∷ 115 ∷ 101 ∷ 100 ∷ []
 
--- the verdict's word: whether it is proved, whether it is late
+-- the verdict's word: whether it is proved, whether it is late; no verdict is both ("both" disappears from the listing)
 unfoldable pub wordOf : Bool → Bool → List ℕ
-wordOf false false = openWord
-wordOf true false = provedWord
+wordOf true late = provedWord
 wordOf false true = lateWord
-wordOf true true = bothWord
+wordOf false false = openWord
 
 unfoldable pub lineOf : ℕ → Answer → List ℕ
 lineOf flags (refusal number place) = lineOfWords (decimalOf flags) (refusedWord ∷ decimalOf number ∷ decimalOf place ∷ [])

@@ -205,9 +205,6 @@ fn put_word(text: &mut [u8], at: usize, proved: bool, late: bool) -> usize
     ensures { λ r. ⌜ r ≤ at + 7 ⌝ }
 {
     if proved {
-        if late {
-            return put(text, at, b"both ");
-        }
         return put(text, at, b"proved ");
     }
     if late {

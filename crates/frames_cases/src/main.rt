@@ -160,11 +160,15 @@ fn show_late(branch: &mut [u8]) {
     show(b"late: Necessary Possible p, Possible p\n", branch, 4);
 }
 
-fn show_both(branch: &mut [u8]) {
+fn show_proved_at_limit(branch: &mut [u8]) {
     let n = put_chain(branch, 24, 7, false);
     let last = put(branch, n, 7, 1, 23, 0);
     let count = put(branch, last, 1, 1, 1, 0);
-    show(b"both: 24 Possibles of p, Non Possible p\n", branch, count);
+    show(
+        b"proved at the limit: 24 Possibles of p, Non Possible p\n",
+        branch,
+        count,
+    );
 }
 
 // What Eight Frames never asks: flags above 15, and trays that are too short.
@@ -192,7 +196,7 @@ fn main() {
     show_marks(view);
     show_ors(view);
     show_late(view);
-    show_both(view);
+    show_proved_at_limit(view);
     show_call(b"bad tick\n", 16, NODE_TRAY_LENGTH);
     show_call(b"short tray\n", 0, NODE_TRAY_LENGTH - 1);
     show_call(b"skipping\n", 8, NODE_TRAY_LENGTH);

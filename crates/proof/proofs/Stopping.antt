@@ -27,7 +27,7 @@ empty-long : (l : List ℕ) (n : ℕ) → mostIdentifiers < length l → mostIde
 empty-long [] n h k = absurd (omega arith)
 empty-long (x ∷ l) n h k = sym (ne-eqb n 0 (λ q. omega (arith, k, q)))
 
-listed-empty : (l : List ℕ) (n : ℕ) (a : List ℕ) → Listed l n a → empty l ≡ eqb n 0
+pub listed-empty : (l : List ℕ) (n : ℕ) (a : List ℕ) → Listed l n a → empty l ≡ eqb n 0
 listed-empty l n a (listed b e q) = empty-count l n e
 listed-empty l n a (tooLong b e) = empty-long l n e b
 

@@ -43,13 +43,14 @@ ghost use Rattle.definition.specs.Setting as D;
 ghost use Rattle.definition.specs.Graph.{emptyGraph};
 ghost use Rattle.definition.specs.Run.{State, start};
 ghost use Rattle.definition.specs.Checks.{LongEnough, refused};
-ghost use Rattle.definition.specs.Call.{outcomeOfRun, answerOf, traysAfter, lengthsOf};
+ghost use Rattle.definition.specs.Call.{outcomeOfRun, late, answerOf, traysAfter, lengthsOf};
+ghost use Rattle.limits.specs.Lent.{Lent};
 ghost use Rattle.formula.specs.Recorded.{Recorded};
 ghost use Rattle.graph.specs.Drawn.{Drawn};
 ghost use Rattle.setting.specs.Asked.{asked};
 ghost use Rattle.tree.specs.Lay.{Held};
 ghost use Rattle.necessities.specs.Stack.{Stack};
-ghost use Rattle.proof.specs.StateHeld.{StateHeld};
+ghost use Rattle.proof.specs.StateHeld.{StateLaid, StateHeld};
 ghost use Rattle.prover.specs.Contract.{trays, Contract};
 ghost use Rattle.prover.specs.Said.{said};
 ghost use Rattle.prover.specs.Parts.{Ends};
@@ -109,6 +110,19 @@ fn narrow(n: usize) -> u16
     n as u16
 }
 
+// Unfinished: the world limit is reached, proved is false and a node still waits.
+fn is_late(p: Progress) -> bool
+    ensures { λ r. ⌜ ((F : D.Setting) (s : State) (A : Lent) → StateLaid F s p A → r ≡ late F s) ⌝ }
+{
+    if p.worlds < WORLD_LIMIT {
+        return false;
+    }
+    if p.proved {
+        return false;
+    }
+    p.waiting != 0
+}
+
 // The answer of a run that has stopped, and its trays.
 fn finish(
     p: Progress,
@@ -139,7 +153,7 @@ fn finish(
     write_edges(edge_tray, edges, p.worlds);
     Answer::Verdict {
         proved: p.proved,
-        late: WORLD_LIMIT <= p.worlds,
+        late: is_late(p),
         identifiers: narrow(p.nodes),
         formulas: narrow(p.formulas),
         worlds: narrow(p.worlds),

@@ -21,6 +21,7 @@ use Rattle.definition.specs.Run.{State, ended, full, stops, steps, unlimitedRun
 use Rattle.definition.specs.Trays.{rowNumber, traysOf}
 use Rattle.definition.specs.Fits.{RecordFits, Sized}
 use Rattle.definition.specs.Claim.{Demand3}
+use Rattle.definition.specs.Finished.{LateExactly, OpenIsFinished}
 use Rattle.definition.specs.Completeness.{Complete, ExactInTime}
 use Rattle.definition.proofs.Basics.Lists.{or-cases, each-map}
 use Rattle.definition.proofs.Tree.Nodes.{ext-result}
@@ -35,14 +36,21 @@ use Rattle.definition.proofs.Run.Accepted.{Accepted, accepted}
 use Rattle.definition.proofs.Call.Bounds
 use Rattle.definition.proofs.Call.Fields
 use Rattle.definition.proofs.Call.Outcomes
+use Rattle.definition.proofs.Call.Late
 use Rattle.definition.proofs.Run.Stepping.{not-full}
 use Rattle.definition.proofs.Soundness.Theorem
 use Rattle.definition.proofs.Completeness.Whole
 use Rattle.definition.proofs.Completeness.Plain
-use Rattle.soundness.specs.Claims.{RulesArePriests, Stops, StaysStopped, FullExactly, NotFullExactly, TwelveExactly, TwelveZeroes, QueueCounts, StepsGrow, PartsGrow, IsTree, TreesOfRun, TreesOfStep, StateFits, RunsFit, TraysKeep, TraysSized, RefusalsWriteNothing, Decides, HasAssignment}
+use Rattle.soundness.specs.Claims.{RulesArePriests, Stops, StaysStopped, FullExactly, NotFullExactly, TwelveExactly, TwelveZeroes, QueueCounts, WaitsAtLimit, StepsGrow, PartsGrow, IsTree, TreesOfRun, TreesOfStep, StateFits, RunsFit, TraysKeep, TraysSized, RefusalsWriteNothing, Decides, HasAssignment}
 
 pub demand-3 : Demand3
 demand-3 = Theorem.demand-3
+
+pub late-exactly : LateExactly
+late-exactly = Late.late-exactly
+
+pub open-is-finished : OpenIsFinished
+open-is-finished = Late.open-is-finished
 
 pub complete : Complete
 complete = Whole.complete
@@ -97,6 +105,9 @@ twelve-zeroes = Outcomes.twelve-zeroes
 
 pub queue-counts : QueueCounts
 queue-counts = Fullness.run-counted
+
+pub waits-at-limit : WaitsAtLimit
+waits-at-limit = Late.waits-at-limit
 
 pub steps-grow : StepsGrow
 steps-grow = Fullness.step-grows

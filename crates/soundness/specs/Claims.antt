@@ -1,4 +1,4 @@
--- What is proved of the definition, beside demand 3 (Rattle.definition.specs.Claim) and what an open verdict says (Rattle.definition.specs.Completeness).
+-- What is proved of the definition, beside demand 3 (Rattle.definition.specs.Claim) and what late and open say (Rattle.definition.specs.Finished, Completeness).
 -- It imports definitions only; proofs/ proves each claim.
 use mathlib.Core.Path.{_≡_}
 use mathlib.Core.Bool.{Bool, true, false}
@@ -63,6 +63,11 @@ TwelveZeroes = (branch : List ℕ) (flags : ℕ) (lent : Trays) (place : ℕ) �
 -- "each identifier once": at every state, those that steps have taken and those that wait are as many as there are, if each marked record has a number
 abbrev pub QueueCounts : Type 0
 QueueCounts = (n : ℕ) (F : Setting) (rs : List Rec) → length (marks rs) ≤ nobody → let s = unlimitedRun n F (start F rs) in s .steps + length (s .waiting) ≡ length (s .nodes)
+
+-- at every state with as many worlds as the limit a node waits: the step that made the last world queued its formula and its comment. So late's third condition
+-- follows from the first, and no run tells "late" from "at the limit and not proved"
+abbrev pub WaitsAtLimit : Type 0
+WaitsAtLimit = (n : ℕ) (F : Setting) (rs : List Rec) → let s = unlimitedRun n F (start F rs) in worldLimit ≤ s .graph .worlds → empty (s .waiting) ≡ false
 
 -- no step, and no part of a step, takes an identifier back
 abbrev pub StepsGrow : Type 0

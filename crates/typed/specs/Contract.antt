@@ -13,7 +13,8 @@ use Rattle.definition.specs.Setting.{settingOf, partialEquivalence}
 use Rattle.definition.specs.Trays.{Trays, recordBytes, over}
 use Rattle.definition.specs.Call.{Answer, refusal}
 use Rattle.definition.specs.Claim.{Proved, NoModel}
-use Rattle.definition.specs.Completeness.{ChecksContradictions, Open, InTime, HasModel}
+use Rattle.definition.specs.Finished.{InTime, Open}
+use Rattle.definition.specs.Completeness.{ChecksContradictions, HasModel}
 use Rattle.grammar.specs.Reading.{Reads, UnreadableAt}
 use Rattle.grammar.specs.Lines.{linesFrom, trayOf}
 use Rattle.prover.specs.Contract.{Contract}

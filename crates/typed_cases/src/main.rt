@@ -67,9 +67,6 @@ fn digest(records: &TextRecords, n: usize) -> u64 {
 
 fn word(proved: bool, late: bool) {
     if proved {
-        if late {
-            return write(b"both ");
-        }
         return write(b"proved ");
     }
     if late {

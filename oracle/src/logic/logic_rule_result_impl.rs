@@ -135,6 +135,12 @@ impl DecompositionPriorityQueue
 {
     pub fn push_logic_rule_result(&mut self, result : LogicRuleResult)
     {
+        self.push_logic_rule_result_impl(result);
+        recorder::waits(!self.is_empty());
+    }
+
+    fn push_logic_rule_result_impl(&mut self, result : LogicRuleResult)
+    {
         match result
         {
             LogicRuleResult::Empty => {}
@@ -150,7 +156,7 @@ impl DecompositionPriorityQueue
             LogicRuleResult::FromMultipleResults(mut collection) =>
             {
                 if variant::on(variant::QUEUE_JOINED_REVERSED) { collection.results.reverse(); }
-                for result in collection.results { self.push_logic_rule_result(result); }
+                for result in collection.results { self.push_logic_rule_result_impl(result); }
             }
         }
     }

@@ -1,5 +1,5 @@
 -- The whole call: what its outcome tells of the run, and what it leaves of the trays.
-use mathlib.Core.Path.{_≡_, refl, ap}
+use mathlib.Core.Path.{_≡_, refl, sym, ap, subst}
 use mathlib.Core.Bool.{Bool, true, false, cond}
 use mathlib.Core.List.{List, [], _∷_}
 use mathlib.Core.Option.{Option, none, some}
@@ -16,7 +16,7 @@ use Rattle.definition.specs.Setting.{Setting, settingOf}
 use Rattle.definition.specs.Checks.{Lengths, LongEnough, Check, refused}
 use Rattle.definition.specs.Run.{State, full, stops, run, start, Passes, final, enoughSteps}
 use Rattle.definition.specs.Trays.{Trays, rowNumber, traysOf, zeroTrays, laidOver}
-use Rattle.definition.specs.Call.{Outcome, Refused, Full, Ended, outcomeOfRun, outcomeBy, outcome, refusal, answerOf, answer, traysAfter, traysLeft, lengthsOf}
+use Rattle.definition.specs.Call.{Outcome, Refused, Full, Ended, outcomeOfRun, outcomeBy, outcome, Answer, refusal, answerOf, answer, traysAfter, traysLeft, lengthsOf}
 use Rattle.definition.specs.Fits.{RecordFits, Sized, TraysKept}
 use Rattle.definition.proofs.Basics.Lists.{each-of, each-both, each-any, each-of-map, bit-low}
 use Rattle.definition.proofs.Run.Accepted.{Accepted, accepted, long-alike, refused-earlier}
@@ -48,6 +48,17 @@ ended-of branch flags lent s e = go (refused branch flags lent) refl e
     go : (o : Option Check) → refused branch flags lent ≡ o → outcomeBy branch flags o ≡ Ended s → Accepted branch flags lent × (full z ≡ false) × (z ≡ s)
     go (some c) q d = let o : _≡_ {A = ℕ} 0 1 = cc in absurd (omega arith)
     go none q d = let k = ran (full z) refl d in (accepted branch flags lent q, k .0, k .1)
+
+-- an answer that is no refusal comes of a run that ended
+pub answered : (P : Answer → Type 0) → ((number place : ℕ) → P (refusal number place) → ⊥) → (branch : List ℕ) (flags : ℕ) (lent : Trays) → P (answer branch flags lent) →
+    let z = final (settingOf flags) (decode branch) in Accepted branch flags (lengthsOf lent) × (full z ≡ false) × P (answerOf (settingOf flags) (Ended z))
+unfolding answer answerOf
+answered P never branch flags lent h = go (outcome branch flags (lengthsOf lent)) refl h
+  where
+    go : (o : Outcome) → outcome branch flags (lengthsOf lent) ≡ o → P (answerOf (settingOf flags) o) → let z = final (settingOf flags) (decode branch) in Accepted branch flags (lengthsOf lent) × (full z ≡ false) × P (answerOf (settingOf flags) (Ended z))
+    go (Refused c) e q = absurd (never (c .number) (c .place) q)
+    go Full e q = absurd (never tooManyIdentifiers 0 q)
+    go (Ended s) e q = let k = ended-of branch flags (lengthsOf lent) s e in (k .0, k .1, subst (λ (s : State). P (answerOf (settingOf flags) (Ended s))) (sym (k .2)) q)
 
 byte : (bytes : List ℕ) → Each (λ b. b < 256) bytes → (i : ℕ) → getD bytes i 0 < 256
 byte [] h i = omega arith

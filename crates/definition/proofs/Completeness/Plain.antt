@@ -40,10 +40,12 @@ use Rattle.definition.proofs.Soundness.Priest
 use Rattle.definition.proofs.Soundness.Priest.{rule-is-priest, rule-known, made-two}
 use Rattle.definition.proofs.Soundness.Theorem.{demand-3}
 use Rattle.definition.proofs.Call.Room.{Fit, fit-start, fit-step, ready}
+use Rattle.definition.proofs.Call.Outcomes.{answered}
+use Rattle.definition.proofs.Call.Late.{nothing-waits}
 use Rattle.definition.proofs.Completeness.Steps.{after}
 use Rattle.definition.proofs.Completeness.Here.{Here, chains, known-flat, apply-here}
 use Rattle.definition.proofs.Completeness.Run.{due}
-use Rattle.definition.proofs.Completeness.Whole.{answered, run-complete}
+use Rattle.definition.proofs.Completeness.Whole.{run-complete}
 
 -- ---- plain formulas
 abbrev Plains : Rule Form → Type 0
@@ -201,7 +203,8 @@ unfolding answerOf
 has-assignment branch flags lent v h checks plain unproved =
     let rs = decode branch in
     let (a, room, open-end) = answered Unproved (λ n i q. q) branch flags lent (subst Unproved (sym h) unproved) in
-    let (l, k) = run-complete branch flags (lengthsOf lent) a checks room open-end (plain-worlds branch flags (lengthsOf lent) a checks plain) in
+    let idle = nothing-waits (settingOf flags) rs open-end (plain-worlds branch flags (lengthsOf lent) a checks plain) room in
+    let (l, k) = run-complete branch flags (lengthsOf lent) a checks room open-end idle in
     let M = readOff (settingOf flags) (final (settingOf flags) rs) l in
     (M .value 0, each-of-map _ (formAt rs) (marks rs) (each-both (λ f (q : Plain (formAt rs f)) (t : truth M (formAt rs f) 0 ≡ true). plain-truth M 0 (formAt rs f) q ∙ t) (marks rs) plain (each-from-map _ (formAt rs) (marks rs) (k .satisfied))))
 

@@ -1,4 +1,4 @@
--- At the end of a run that checks contradictions, neither proved nor late, nothing waits: so the first open path gives a model of the branch, and a verdict in time is exact.
+-- At the end of a run that checks contradictions, not proved, where nothing waits, the first open path gives a model of the branch; so a verdict in time is exact.
 use mathlib.Core.Path.{_≡_, refl, sym, ap, _∙_, subst}
 use mathlib.Core.Bool.{Bool, _&&_, true, false, not, cond, Bool·beq}
 use mathlib.Core.List.{List, [], _∷_, map}
@@ -8,7 +8,6 @@ use Prim.Native.Nat.{ℕ, _≤_}
 use native.Mathlib.Omega.{arith}
 use lib.ListN.{length}
 use Rattle.definition.specs.Limits.{mostIdentifiers}
-use Rattle.definition.specs.RefusalNumbers.{tooManyIdentifiers}
 use Rattle.definition.specs.Lists.{Each, all, find, elem, empty}
 use Rattle.definition.specs.Records.{Rec, Unknown, decode, marks, made, numberOf, recAt}
 use Rattle.definition.specs.Checks.{Lengths}
@@ -20,15 +19,14 @@ use Rattle.definition.specs.Tree.{Node, nodeAt, leaves, path}
 use Rattle.definition.specs.Rules.{Rule, nothing, down, split, asPossible, asNecessary, priest}
 use Rattle.definition.specs.Modality.{occurs}
 use Rattle.definition.specs.Contradiction.{Pair, isPair, pairs, getContradictoryNodeIds}
-use Rattle.definition.specs.Run.{State, full, ended, stops, final, enoughSteps}
-use Rattle.definition.specs.Trays.{Trays}
-use Rattle.definition.specs.Call.{Outcome, Refused, Full, Ended, outcome, Answer, refusal, verdict, answerOf, answer, lengthsOf, late}
+use Rattle.definition.specs.Run.{State, full, final, enoughSteps}
+use Rattle.definition.specs.Call.{Answer, refusal, verdict, answerOf, answer, lengthsOf}
 use Rattle.definition.specs.Claim.{Proved}
 use Rattle.definition.specs.Countermodel.{keepsEdges, readOff, firstOpen, Countermodel}
-use Rattle.definition.specs.Completeness.{InTime, Open, HasCountermodel, HasModel, Complete, ExactInTime}
+use Rattle.definition.specs.Finished.{InTime, Open, Finished}
+use Rattle.definition.specs.Completeness.{HasCountermodel, HasModel, Complete, ExactInTime}
 use Rattle.definition.specs.Fits.{RecordFits}
-use Rattle.definition.proofs.Basics.Lists.{true-false, either, or-cases, and-left, and-right, and-both, some-among, each-map, each-of-map, each-of, each-among, among-elem}
-use Rattle.definition.proofs.Run.Fullness.{final-stops}
+use Rattle.definition.proofs.Basics.Lists.{true-false, either, and-left, and-right, and-both, some-among, each-map, each-of-map, each-of, each-among, among-elem}
 use Rattle.definition.proofs.Run.Accepted.{Accepted}
 use Rattle.definition.proofs.Soundness.Priest.{Claims}
 use Rattle.definition.proofs.Soundness.Edges.{init-worlds}
@@ -38,7 +36,8 @@ use Rattle.definition.specs.TreeShape.{spots, In, Treed, Bare}
 use Rattle.definition.proofs.Tree.Shape.{leaves-bare}
 use Rattle.definition.specs.Shortcuts.{pairOf}
 use Rattle.definition.proofs.Paths.Pairs.{path-there}
-use Rattle.definition.proofs.Call.Outcomes.{ended-of, final-bounded}
+use Rattle.definition.proofs.Call.Outcomes.{answered, final-bounded}
+use Rattle.definition.proofs.Call.Late.{open-is-finished}
 use Rattle.definition.proofs.Completeness.On.{On, OpenLeaf, on-occurs, elem-occurs, keeps-of}
 use Rattle.definition.proofs.Completeness.Hintikka.{hintikka}
 use Rattle.definition.proofs.Completeness.Atoms.{on-says, denies}
@@ -171,48 +170,23 @@ accepted-kinds : (branch : List ℕ) (flags : ℕ) (lent : Lengths) → Accepted
 unfolding recAt
 accepted-kinds branch flags lent a = each-of (λ (r : Rec). numberOf (r .kind) ≤ 8) (made Unknown 0 0) (decode branch) (λ i h. a .records i h .kind)
 
--- nothing waits at its end, unless it is proved, late or full
-nothing-waits : (F : Setting) (rs : List Rec) → final F rs .proved ≡ false → late F (final F rs) ≡ false → full (final F rs) ≡ false → empty (final F rs .waiting) ≡ true
-unfolding stops ended late
-nothing-waits F rs unproved timely room =
-    let z = final F rs in
-    elim (or-cases (ended F z) (full z) (final-stops F rs)) [
-      | inr q ↦ true-false (sym q ∙ room)
-      | inl q ↦ elim (or-cases (z .proved) _ q) [
-        | inl d ↦ true-false (sym d ∙ unproved)
-        | inr d ↦ elim (or-cases (empty (z .waiting)) _ d) [ inl b ↦ b | inr b ↦ true-false (sym b ∙ timely) ]
-      ]
-    ]
-
 pub run-complete : (branch : List ℕ) (flags : ℕ) (lent : Lengths) → let z = final (settingOf flags) (decode branch) in
-    Accepted branch flags lent → settingOf flags .skip ≡ false → full z ≡ false → z .proved ≡ false → late (settingOf flags) z ≡ false → HasCountermodel (settingOf flags) (decode branch)
+    Accepted branch flags lent → settingOf flags .skip ≡ false → full z ≡ false → z .proved ≡ false → Finished (settingOf flags) (decode branch) → HasCountermodel (settingOf flags) (decode branch)
 unfolding final
-run-complete branch flags lent a skip room unproved timely =
+run-complete branch flags lent a skip room unproved idle =
     let F = settingOf flags in
     let rs = decode branch in
     let z = final F rs in
     let few = not-full z room in
     let g = good-run F rs skip (a .marked) (a .few) (λ i l. a .records i l .links) enoughSteps (omega arith) in
     let kinds = final-bounded branch flags lent a room (λ (r : Rec). numberOf (r .kind) ≤ 8) (λ r (q : RecordFits r). q .kind) (accepted-kinds branch flags lent a) .sizes .records in
-    let idle = nothing-waits F rs unproved timely room in
     let l = open-leaf F rs z g few skip kinds idle unproved in
     (l .0, countermodel F rs z g few skip kinds idle (l .0) (l .2) (l .1))
 
 -- ---- the call
--- an answer that is no refusal comes of a run that ended
-pub answered : (P : Answer → Type 0) → ((number place : ℕ) → P (refusal number place) → ⊥) → (branch : List ℕ) (flags : ℕ) (lent : Trays) → P (answer branch flags lent) →
-    let z = final (settingOf flags) (decode branch) in Accepted branch flags (lengthsOf lent) × (full z ≡ false) × P (answerOf (settingOf flags) (Ended z))
-unfolding answer answerOf
-answered P never branch flags lent h = go (outcome branch flags (lengthsOf lent)) refl h
-  where
-    go : (o : Outcome) → outcome branch flags (lengthsOf lent) ≡ o → P (answerOf (settingOf flags) o) → let z = final (settingOf flags) (decode branch) in Accepted branch flags (lengthsOf lent) × (full z ≡ false) × P (answerOf (settingOf flags) (Ended z))
-    go (Refused c) e q = absurd (never (c .number) (c .place) q)
-    go Full e q = absurd (never tooManyIdentifiers 0 q)
-    go (Ended s) e q = let k = ended-of branch flags (lengthsOf lent) s e in (k .0, k .1, subst (λ (s : State). P (answerOf (settingOf flags) (Ended s))) (sym (k .2)) q)
-
 pub complete : Complete
 unfolding answerOf
-complete branch flags lent skip h = let a = answered Open (λ n i q. q) branch flags lent h in run-complete branch flags (lengthsOf lent) (a .0) skip (a .1) (a .2 .0) (a .2 .1)
+complete branch flags lent skip h = let (a, room, (unproved, _)) = answered Open (λ n i q. q) branch flags lent h in run-complete branch flags (lengthsOf lent) a skip room unproved (open-is-finished branch flags lent h)
 
 -- what is read off the first open path is a model
 pub has-model : (F : Setting) (rs : List Rec) → HasCountermodel F rs → HasModel F (branchOf rs)

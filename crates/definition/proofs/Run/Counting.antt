@@ -118,20 +118,24 @@ checked-steps : (F : Setting) (s : State) → checkForContradictions F s .steps 
 unfolding checkedForContradictions
 checked-steps F s = checked-both (λ (z : State). z .steps ≡ s .steps) F s refl refl
 
-pub appended-counted : (F : Setting) (s : State) (taken : Popped) → suc (length (taken .others)) ≡ length (s .waiting) → Counted s → Counted (appended F s taken)
-unfolding appended Counted
-appended-counted F s taken e h =
+-- what a step adds to the tree it adds to the queue
+pub appended-queued : (F : Setting) (s : State) (taken : Popped) → length (s .nodes) + length (appended F s taken .waiting) ≡ length (taken .others) + length (appended F s taken .nodes)
+unfolding appended
+appended-queued F s taken =
     let r = apply F s (taken .node) in
     let n = length (s .nodes) in
     omega (
       arith,
-      e,
-      h,
       result-count (r .subtrees) (s .nodes ++ r .nodes) (taken .others) n (n + length (r .nodes)) (apply-issued F s (taken .node)),
       length-append (s .nodes) (r .nodes),
     )
 
-pub appended-grows : (F : Setting) (s : State) (p : Popped) → length (s .nodes) ≤ length (appended F s p .nodes)
+pub appended-counted : (F : Setting) (s : State) (taken : Popped) → suc (length (taken .others)) ≡ length (s .waiting) → Counted s → Counted (appended F s taken)
+unfolding appended Counted
+appended-counted F s taken e h = omega (arith, e, h, appended-queued F s taken)
+
+-- and that is at least what its rule made
+pub appended-grows : (F : Setting) (s : State) (p : Popped) → length (s .nodes) + length (apply F s (p .node) .nodes) ≤ length (appended F s p .nodes)
 unfolding appended
 appended-grows F s p =
     let r = apply F s (p .node) in

@@ -20,7 +20,7 @@ use Rattle.definition.proofs.Run.Counting.{Counted, due, start-counted,
 
 -- a step takes no identifier back
 pub step-grows : (F : Setting) (s : State) → length (s .nodes) ≤ length (step F s .nodes)
-step-grows F s = step-keeps F s (λ (z : State). length (s .nodes) ≤ length (z .nodes)) (λ p k. appended-grows F s p) (λ z h. omega (arith, h, checked-length F z)) (omega arith)
+step-grows F s = step-keeps F s (λ (z : State). length (s .nodes) ≤ length (z .nodes)) (λ p k. omega (arith, appended-grows F s p)) (λ z h. omega (arith, h, checked-length F z)) (omega arith)
 
 -- nor does a part of one: the first subtrees of a result, and then the others
 result-append : (xs ys : List Targeted) (t : List Node) (q : List ℕ) →

@@ -1,4 +1,5 @@
 use mathlib.Core.Bool.{true, false}
+use mathlib.Core.Path.{refl}
 use borrow.Author.Needs.{needs}
 use Rattle.frames.specs.Line.{wordOf}
 use Rattle.frames.proofs.Texts.{put-word}
@@ -7,19 +8,15 @@ use Rattle.frames.proofs.put_word.Tie as tie
 
 returns : tie.Need-returns
 unfolding wordOf
-returns c = put-word true true (c .before .before .before .before .before .before .if1 .taken) (c .before .before .before .before .before .if2 .taken) (c .before .before .put .ensures)
+returns c = put-word true _ (c .before .before .before .before .before .if1 .taken) refl (c .before .before .put .ensures)
 
 returns-2 : tie.Need-returns-2
 unfolding wordOf
-returns-2 c = put-word true false (c .before .before .before .before .before .before .if1 .taken) (c .before .before .before .before .before .if2 .left) (c .before .before .put2 .ensures)
+returns-2 c = put-word false true (c .before .before .before .before .before .before .if1 .left) (c .before .before .before .before .before .if2 .taken) (c .before .before .put2 .ensures)
 
 returns-3 : tie.Need-returns-3
 unfolding wordOf
-returns-3 c = put-word false true (c .before .before .before .before .before .before .if1 .left) (c .before .before .before .before .before .if3 .taken) (c .before .before .put3 .ensures)
-
-returns-4 : tie.Need-returns-4
-unfolding wordOf
-returns-4 c = put-word false false (c .before .before .before .before .before .before .if1 .left) (c .before .before .before .before .before .if3 .left) (c .before .before .put4 .ensures)
+returns-3 c = put-word false false (c .before .before .before .before .before .before .if1 .left) (c .before .before .before .before .before .if2 .left) (c .before .before .put3 .ensures)
 
 pub put-word-spec : {M : Type 1} → statement M
-put-word-spec = tie.close (tie.spec (search needs) (search needs) (search needs) returns (search needs) (search needs) (search needs) returns-2 (search needs) (search needs) (search needs) returns-3 (search needs) (search needs) (search needs) returns-4)
+put-word-spec = tie.close (tie.spec (search needs) (search needs) (search needs) returns (search needs) (search needs) (search needs) returns-2 (search needs) (search needs) (search needs) returns-3)

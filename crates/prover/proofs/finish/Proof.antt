@@ -20,7 +20,7 @@ returns-2 c = λ F s necessities leaves waiting classes k e z.
     (c .before .before .before .before .before .before .before .before .before .before .before .before .before .before .before .write-nodes .ensures .0 (s .nodes) (l .count) (record { fits = omega (arith, l .count, c .before .before .before .before .before .before .before .before .before .before .before .before .before .before .before .before .before .if1 .left); laid = l .nodes }) (h .worlds) (z .nodes))
     (c .before .before .before .before .before .before .before .before .before .before .before .write-formulas .ensures .0 (s .formulas) (l .formulas) (recorded-fits (l .formulas) (h .formulas)) (h .marks) (z .formulas))
     (c .before .before .before .before .before .before .before .write-edges .ensures .0 (s .graph) (l .graph) (h .rows) (h .columns) (z .edges))
-    (c .before .before .before .narrow .ensures) (c .before .before .narrow2 .ensures) (c .before .narrow3 .ensures) (c .narrow4 .ensures)
+    (c .before .before .before .before .is-late .ensures _ _ _ l) (c .before .before .before .narrow .ensures) (c .before .before .narrow2 .ensures) (c .before .narrow3 .ensures) (c .narrow4 .ensures)
 
 pub finish-spec : {M : Type 1} → statement M
-finish-spec = tie.close (tie.spec (search needs) (search needs) (search needs) (search needs) (search needs) (search needs) returns (search needs) (search needs) (search needs) (search needs) (search needs) (search needs) (search needs) (search needs) (search needs) (search needs) returns-2)
+finish-spec = tie.close (tie.spec (search needs) (search needs) (search needs) (search needs) (search needs) (search needs) returns (search needs) (search needs) (search needs) (search needs) (search needs) (search needs) (search needs) (search needs) (search needs) (search needs) (search needs) returns-2)
