@@ -1,5 +1,6 @@
 /* Necessary p, Possible Non p: proved. Then the same with a flag byte that has no meaning: refused. Then rules as text: the
- * README's example, open and with transitive proved; and a text that is garbled, with the offset of the byte that is wrong.
+ * README's example, open and with transitive proved; one that comes to the world limit, late; and a text that is garbled, with
+ * the offset of the byte that is wrong.
  *     rt staticlib wozhnerk && cc -std=c99 -Wall -Wextra -pedantic -Iinclude examples/prove.c target/staticlib/libwozhnerk.a -o target/prove-c
  */
 #include <stdio.h>
@@ -44,6 +45,7 @@ int main(void) {
     prove(branch, sizeof branch, 16);
     prove_typed(rules, 0);
     prove_typed(rules, WOZHNERK_TRANSITIVE);
+    prove_typed("[]<>a0\n<>a0\n", WOZHNERK_TRANSITIVE);
     prove_typed("a0 => a1\n~[](a0 = a1)\n", 0);
     return 0;
 }

@@ -1,5 +1,6 @@
 // Necessary p, Possible Non p: proved. Then the same with a flag byte that has no meaning: refused. Then rules as text: the
-// README's example, open and with transitive proved; and a text that is garbled, with the offset of the byte that is wrong.
+// README's example, open and with transitive proved; one that comes to the world limit, late; and a text that is garbled, with
+// the offset of the byte that is wrong.
 //     rt staticlib wozhnerk && rustc --edition 2021 -L target/staticlib examples/prove.rs -o target/prove-rs
 #[link(name = "wozhnerk", kind = "static")]
 extern "C" {
@@ -62,5 +63,6 @@ fn main() {
     say(prove(&branch, 16, &mut nodes, &mut formulas, &mut edges));
     say(prove_typed(rules, 0, &mut records, &mut nodes, &mut formulas, &mut edges));
     say(prove_typed(rules, 4, &mut records, &mut nodes, &mut formulas, &mut edges));
+    say(prove_typed(b"[]<>a0\n<>a0\n", 4, &mut records, &mut nodes, &mut formulas, &mut edges));
     say(prove_typed(b"a0 => a1\n~[](a0 = a1)\n", 0, &mut records, &mut nodes, &mut formulas, &mut edges));
 }

@@ -78,12 +78,12 @@ enum wozhnerk_refusal {
  *
  * What the call promises (docs/ARCHITECTURE.md, "Where each demand stands", names statement and proof of each):
  * 1. it ends, and answers one verdict or one refusal; refusals 1 to 11 leave the trays as lent, 12 zeroes their lengths;
- * 2. answer and trays are those of document 01's run, whose rules are Priest's, and 12 comes exactly when that run passes
- *    512 identifiers;
+ * 2. answer and trays are those of document 01's run (late: document 02's), whose rules are Priest's, and 12 comes exactly
+ *    when that run passes 512 identifiers;
  * 3. if the answer is a verdict with `proved`, no world of any finite Kripke model with the flagged properties makes every
  *    formula of the branch true (symmetric and transitive without reflexive: no world that reaches some world);
  * 4. a verdict is `late` exactly if the world limit is reached (25 worlds exist), it is not `proved` and a node still waits:
- *    the run is unfinished. So a verdict that is open, neither `proved` nor `late`, is finished: no node waits;
+ *    the run is unfinished. A verdict that is open, neither `proved` nor `late`, is finished: no node waits;
  * 5. if the answer is a verdict that is open, and WOZHNERK_SKIP_CONTRADICTION_CHECKS is not set, some world of a finite
  *    Kripke model with the flagged properties makes every formula of the branch true. So, without that flag, a verdict that
  *    is not late is `proved` exactly if there is no such model (not so for symmetric and transitive without reflexive:

@@ -1,4 +1,4 @@
-//! Harness: watches every node that a rule or a copy issues, counts steps, aborts beyond 512 identifiers.
+//! Harness: watches every node that a rule or a copy issues, counts steps, keeps whether a node waits, aborts beyond 512 identifiers.
 use std::cell::{Cell, RefCell};
 use crate::formula::Formula;
 use crate::formula::Formula::{And, Atomic, BiImply, Comment, Imply, Necessary, Non, Or, Possible, StrictImply};

@@ -36,9 +36,9 @@ expectedOf line =
     })
 
 -- ---- a verdict
--- p, l, o: the first letter of what is proved, late or open
+-- p, l, o: the first letter of what is proved, late or open; 0, which no line has, of what would be both
 unfoldable pub verdictLetter : Bool → Bool → ℕ
-verdictLetter proved late = cond proved 112 (cond late 108 111)
+verdictLetter proved late = cond proved (cond late 0 112) (cond late 108 111)
 
 unfoldable pub countsDiffer : Expected → ℕ → ℕ → ℕ → Difference
 countsDiffer e identifiers worlds steps =

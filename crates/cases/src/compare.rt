@@ -73,11 +73,14 @@ fn read_line(line: &[u8]) -> Expected
     }
 }
 
-// The first letter of the verdict.
+// The first letter of the verdict; 0 of one that would be proved and late.
 fn letter(proved: bool, late: bool) -> u8
     ensures { λ r. ⌜ r ≡ verdictLetter proved late ⌝ }
 {
     if proved {
+        if late {
+            return 0;
+        }
         return b'p';
     }
     if late {

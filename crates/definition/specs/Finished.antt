@@ -26,15 +26,19 @@ Open (verdict v) = (v .proved ≡ false) × (v .late ≡ false)
 abbrev pub Unfinished : Setting → List Rec → Verdict → Type 0
 Unfinished F rs v = (worldLimit ≤ v .worlds) × (v .proved ≡ false) × (empty (final F rs .waiting) ≡ false)
 
--- nothing waits at the end of the run
+-- nothing waits at the end of the run; a proved one may leave nodes waiting, and is neither
 abbrev pub Finished : Setting → List Rec → Type 0
 Finished F rs = empty (final F rs .waiting) ≡ true
 
--- document 02: "late is set exactly if" that is so
-abbrev pub LateExactly : Type 0
-LateExactly =
-    (branch : List ℕ) (flags : ℕ) (lent : Trays) (v : Verdict) → answer branch flags lent ≡ verdict v → ((v .late ≡ true) ↔ Unfinished (settingOf flags) (decode branch) v)
+-- document 02: "late is set exactly if the world limit is reached, proved is false and a node still waits"; a refusal has no late
+abbrev pub LateIsUnfinished : Setting → List Rec → Answer → Type 0
+LateIsUnfinished F rs (refusal number place) = Unit {0}
+LateIsUnfinished F rs (verdict v) = (v .late ≡ true) ↔ Unfinished F rs v
 
--- so an open verdict, with the checks skipped too, is that of a run which took every node
+abbrev pub LateExactly : Type 0
+LateExactly = (branch : List ℕ) (flags : ℕ) (lent : Trays) → LateIsUnfinished (settingOf flags) (decode branch) (answer branch flags lent)
+
+-- nothing but the limit stops a run that is neither proved nor full while a node waits: an open verdict, with the checks skipped too, is that of a run which took
+-- every node
 abbrev pub OpenIsFinished : Type 0
 OpenIsFinished = (branch : List ℕ) (flags : ℕ) (lent : Trays) → Open (answer branch flags lent) → Finished (settingOf flags) (decode branch)

@@ -22,7 +22,7 @@ lateWord = 108 ∷ 97 ∷ 116 ∷ 101 ∷ []
 abbrev pub refusedWord : List ℕ
 refusedWord = 114 ∷ 101 ∷ 102 ∷ 117 ∷ 115 ∷ 101 ∷ 100 ∷ []
 
--- the verdict's word: whether it is proved, whether it is late; no verdict is both ("both" disappears from the listing)
+-- the verdict's word: whether it is proved, whether it is late. No verdict is both; document 02: ""both" disappears from the listing"
 unfoldable pub wordOf : Bool → Bool → List ℕ
 wordOf true late = provedWord
 wordOf false true = lateWord

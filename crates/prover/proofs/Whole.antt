@@ -20,7 +20,7 @@ use Rattle.definition.specs.Trays.{Trays}
 use Rattle.definition.specs.Checks.{LongEnough, check, refused}
 use Rattle.definition.specs.Call.{Outcome, Refused, Full, Ended, Answer, refusal, outcomeOfRun, outcomeBy, outcome, answerOf, answer, traysAfter, traysLeft, lengthsOf}
 use Rattle.definition.specs.Claim.{Proved}
-use Rattle.definition.specs.Finished.{InTime, Open}
+use Rattle.definition.specs.Finished.{InTime, Open, LateIsUnfinished}
 use Rattle.definition.proofs.Basics.Lists.{each-of}
 use Rattle.definition.proofs.Soundness.Edges.{init-one, init-less}
 use Rattle.definition.proofs.Call.Bounds.{bounded-formulas, bounded-steps}
@@ -58,7 +58,7 @@ module _ (branch : List ℕ) (flags : ℕ) (lent : Trays) where
         fullExactly = (λ e. twelve .0 (sym a ∙ e), λ p. a ∙ twelve .1 p);
         fullZeroes = λ place e. t ∙ twelve-zeroes branch flags lent place (sym a ∙ e);
         provedIsSound = λ p. demand-3 branch flags lent (subst Proved a p);
-        lateExactly = λ v e. late-exactly branch flags lent v (sym a ∙ e);
+        lateExactly = subst (LateIsUnfinished (settingOf flags) (decode branch)) (sym a) (late-exactly branch flags lent);
         openIsFinished = λ p. open-is-finished branch flags lent (subst Open a p);
         openHasModel = λ c p. complete branch flags lent c (subst Open a p);
         exactInTime = λ c f p. let e = exact branch flags lent c f (subst InTime a p) in (λ q. e .0 (subst Proved a q), λ q. subst Proved (sym a) (e .1 q));

@@ -1,6 +1,6 @@
 -- The contract of the call, clause by clause. `lent` are the trays at entry, `left` the trays at exit.
 use mathlib.Core.Path.{_≡_}
-use mathlib.Core.Bool.{true, false}
+use mathlib.Core.Bool.{false}
 use mathlib.Core.List.{List}
 use mathlib.Core.Option.{none}
 use mathlib.Core.Logic.{_↔_}
@@ -12,9 +12,9 @@ use Rattle.definition.specs.Checks.{refused}
 use Rattle.definition.specs.Setting.{settingOf, partialEquivalence}
 use Rattle.definition.specs.Run.{Passes}
 use Rattle.definition.specs.Trays.{Trays, zeroTrays, laidOver}
-use Rattle.definition.specs.Call.{Verdict, Answer, refusal, verdict, answer, traysLeft, lengthsOf}
+use Rattle.definition.specs.Call.{Answer, refusal, answer, traysLeft, lengthsOf}
 use Rattle.definition.specs.Claim.{Proved, NoModel}
-use Rattle.definition.specs.Finished.{InTime, Open, Unfinished, Finished}
+use Rattle.definition.specs.Finished.{InTime, Open, Finished, LateIsUnfinished}
 use Rattle.definition.specs.Completeness.{ChecksContradictions, HasCountermodel}
 
 abbrev pub trays : List ℕ → List ℕ → List ℕ → Trays
@@ -35,8 +35,8 @@ pub record Contract (branch : List ℕ) (flags : ℕ) (lent : Trays) (said : Ans
   -- with the flagged properties (..), however large, makes every formula of the branch true"
   pub provedIsSound : Proved said → NoModel (settingOf flags) (branchOf (decode branch))
   -- document 02: "late is set exactly if the world limit is reached, proved is false and a node still waits"
-  pub lateExactly : (v : Verdict) → said ≡ verdict v → ((v .late ≡ true) ↔ Unfinished (settingOf flags) (decode branch) v)
-  -- so of an open verdict nothing waits
+  pub lateExactly : LateIsUnfinished (settingOf flags) (decode branch) said
+  -- and of an open verdict nothing waits
   pub openIsFinished : Open said → Finished (settingOf flags) (decode branch)
   -- beyond the papers: where contradiction checks were not skipped, an open verdict has a model, read off the first open path: it has the flagged
   -- properties, and its world 0 makes every formula of the branch true

@@ -41,7 +41,7 @@ use Rattle.definition.proofs.Run.Stepping.{not-full}
 use Rattle.definition.proofs.Soundness.Theorem
 use Rattle.definition.proofs.Completeness.Whole
 use Rattle.definition.proofs.Completeness.Plain
-use Rattle.soundness.specs.Claims.{RulesArePriests, Stops, StaysStopped, FullExactly, NotFullExactly, TwelveExactly, TwelveZeroes, QueueCounts, WaitsAtLimit, StepsGrow, PartsGrow, IsTree, TreesOfRun, TreesOfStep, StateFits, RunsFit, TraysKeep, TraysSized, RefusalsWriteNothing, Decides, HasAssignment}
+use Rattle.soundness.specs.Claims.{RulesArePriests, Stops, StaysStopped, FullExactly, NotFullExactly, TwelveExactly, TwelveZeroes, QueueCounts, WaitsAtLimit, LateAtLimit, StepsGrow, PartsGrow, IsTree, TreesOfRun, TreesOfStep, StateFits, RunsFit, TraysKeep, TraysSized, RefusalsWriteNothing, Decides, HasAssignment}
 
 pub demand-3 : Demand3
 demand-3 = Theorem.demand-3
@@ -108,6 +108,9 @@ queue-counts = Fullness.run-counted
 
 pub waits-at-limit : WaitsAtLimit
 waits-at-limit = Late.waits-at-limit
+
+pub late-at-limit : LateAtLimit
+late-at-limit = Late.late-at-limit
 
 pub steps-grow : StepsGrow
 steps-grow = Fullness.step-grows

@@ -1,11 +1,12 @@
 -- What is proved of the definition, beside demand 3 (Rattle.definition.specs.Claim) and what late and open say (Rattle.definition.specs.Finished, Completeness).
 -- It imports definitions only; proofs/ proves each claim.
 use mathlib.Core.Path.{_≡_}
-use mathlib.Core.Bool.{Bool, true, false}
+use mathlib.Core.Bool.{Bool, true, false, not, _&&_}
 use mathlib.Core.List.{List, _++_}
 use mathlib.Core.Option.{none}
 use mathlib.Core.Logic.{_⊎_, _↔_, _≢_}
 use Prim.Native.Nat.{ℕ, suc, _<_, _≤_, _+_, _^_}
+use lib.Dec.{leb}
 use lib.ListN.{length}
 use Rattle.definition.specs.Limits.{mostIdentifiers, worldLimit, graphWidth, mostFormulas}
 use Rattle.definition.specs.RefusalNumbers.{tooManyIdentifiers}
@@ -21,7 +22,7 @@ use Rattle.definition.specs.Subtree.{Targeted, appendLogicRuleResult}
 use Rattle.definition.specs.Run.{State, apply, step, full, run, unlimitedRun, start, Passes, final}
 use Rattle.definition.specs.Trays.{Trays, rowNumber, traysOf, zeroTrays, laidOver}
 use Rattle.definition.specs.Fits.{Number, RecordFits, Sized, TraysKept}
-use Rattle.definition.specs.Call.{Refused, Ended, outcome, Verdict, verdict, refusal, answer, traysLeft, lengthsOf}
+use Rattle.definition.specs.Call.{Refused, Ended, outcome, late, Verdict, verdict, refusal, answer, traysLeft, lengthsOf}
 use Rattle.definition.specs.Claim.{Proved, Reaching, Satisfied}
 use Rattle.definition.specs.Completeness.{ChecksContradictions}
 use Rattle.definition.specs.Propositional.{PlainBranch, Satisfies}
@@ -64,10 +65,13 @@ TwelveZeroes = (branch : List ℕ) (flags : ℕ) (lent : Trays) (place : ℕ) �
 abbrev pub QueueCounts : Type 0
 QueueCounts = (n : ℕ) (F : Setting) (rs : List Rec) → length (marks rs) ≤ nobody → let s = unlimitedRun n F (start F rs) in s .steps + length (s .waiting) ≡ length (s .nodes)
 
--- at every state with as many worlds as the limit a node waits: the step that made the last world queued its formula and its comment. So late's third condition
--- follows from the first, and no run tells "late" from "at the limit and not proved"
+-- at every state with as many worlds as the limit a node waits: the step that made the last world queued its formula and its comment
 abbrev pub WaitsAtLimit : Type 0
 WaitsAtLimit = (n : ℕ) (F : Setting) (rs : List Rec) → let s = unlimitedRun n F (start F rs) in worldLimit ≤ s .graph .worlds → empty (s .waiting) ≡ false
+
+-- so late's third condition follows from its first: no state tells the three from "the world limit is reached, proved is false"
+abbrev pub LateAtLimit : Type 0
+LateAtLimit = (n : ℕ) (F : Setting) (rs : List Rec) → let s = unlimitedRun n F (start F rs) in late F s ≡ (leb worldLimit (s .graph .worlds) && not (s .proved))
 
 -- no step, and no part of a step, takes an identifier back
 abbrev pub StepsGrow : Type 0

@@ -32,7 +32,7 @@ pub record Ran (flags : ℕ) (textTray : List ℕ) (lent : Trays) (said : Answer
   pub records : textTrayLeft ≡ over (trayOf (linesFrom 0 ps)) textTray
   -- "The checks of the records follow": every clause of the call, of the bytes of these records
   pub call : Contract (concatMap recordBytes (linesFrom 0 ps)) flags lent said left
-  -- demand 3, and what is said beyond the demands, of the text's own formulas
+  -- demand 3, and what is said beyond the papers, of the text's own formulas
   pub provedIsSound : Proved said → NoModel (settingOf flags) ps
   pub openHasModel : ChecksContradictions (settingOf flags) → Open said → HasModel (settingOf flags) ps
   pub exactInTime : ChecksContradictions (settingOf flags) → partialEquivalence (settingOf flags) ≡ false → InTime said → (Proved said ↔ NoModel (settingOf flags) ps)

@@ -67,6 +67,9 @@ fn digest(records: &TextRecords, n: usize) -> u64 {
 
 fn word(proved: bool, late: bool) {
     if proved {
+        if late {
+            return write(b"proved and late ");
+        }
         return write(b"proved ");
     }
     if late {

@@ -1,6 +1,6 @@
 -- Late: at the limit of worlds a node always waits, since the step that makes the last world queues its formula; and of a run that is neither proved, late nor full nothing waits.
 use mathlib.Core.Path.{_≡_, refl, sym, _∙_, subst}
-use mathlib.Core.Bool.{Bool, true, false, not}
+use mathlib.Core.Bool.{true, false, not, _&&_, and-true}
 use mathlib.Core.List.{List, [], _∷_}
 use mathlib.Core.Logic.{_⊎_, inl, inr, _↔_}
 use Prim.Native.Nat.{ℕ, _<_, _≤_}
@@ -16,14 +16,14 @@ use Rattle.definition.specs.Graph.{Graph, emptyGraph, initializeGraphIfN
 use Rattle.definition.specs.Rules.{Rule, nothing, down, split, asPossible, asNecessary}
 use Rattle.definition.specs.Queue.{Popped}
 use Rattle.definition.specs.Run.{State, applyHere, applyPossibility, applyNecessity, applyRule, apply, checkedForContradictions, checkForContradictions, appended, ended, full, stops, begun, start, unlimitedRun, final}
-use Rattle.definition.specs.Call.{Answer, refusal, verdict, answerOf, late}
-use Rattle.definition.specs.Finished.{Open, Unfinished, LateExactly, OpenIsFinished}
-use Rattle.definition.proofs.Basics.Lists.{true-false, either, or-cases, and-left, and-right, and-both}
+use Rattle.definition.specs.Call.{Outcome, Refused, Full, Ended, outcome, answerOf, answer, lengthsOf, late}
+use Rattle.definition.specs.Finished.{Open, LateIsUnfinished, LateExactly, OpenIsFinished}
+use Rattle.definition.proofs.Basics.Lists.{true-false, not-true, either, or-cases, and-left, and-right, and-both}
 use Rattle.definition.proofs.Run.Stepping.{checked-both, not-ended, step-keeps, run-keeps}
 use Rattle.definition.proofs.Run.Counting.{appended-queued, appended-grows}
 use Rattle.definition.proofs.Run.Fullness.{final-stops}
 use Rattle.definition.proofs.Soundness.Edges.{init-one, init-less, init-worlds}
-use Rattle.definition.proofs.Call.Outcomes.{answered}
+use Rattle.definition.proofs.Call.Outcomes.{ended-of, answered}
 
 -- ---- at the limit a node waits
 -- a rule makes a node, or no world but the first
@@ -47,14 +47,14 @@ first-low F g few = elim (init-less F g) [ inl e ↦ omega (arith, init-one F g 
 abbrev LimitWaits : State → Type 0
 LimitWaits s = worldLimit ≤ s .graph .worlds → empty (s .waiting) ≡ false
 
-filled : (q : List ℕ) → 0 < length q → empty q ≡ false
-filled [] h = absurd (omega arith)
-filled (x ∷ q) h = refl
+some-wait : (q : List ℕ) → 0 < length q → empty q ≡ false
+some-wait [] h = absurd (omega arith)
+some-wait (x ∷ q) h = refl
 
 appended-waits : (F : Setting) (s : State) (p : Popped) → s .graph .worlds < worldLimit → LimitWaits (appended F s p)
 unfolding appended
 appended-waits F s p few reached =
-    filled (appended F s p .waiting) (elim (apply-forks F s (p .node)) [
+    some-wait (appended F s p .waiting) (elim (apply-forks F s (p .node)) [
       | inl h ↦ absurd (omega (arith, h, reached, first-low F (s .graph) few))
       | inr h ↦ omega (arith, h, appended-queued F s p, appended-grows F s p)
     ])
@@ -78,10 +78,16 @@ late-is F s =
       λ e. let r = and-right limit _ e in (leb-true worldLimit (s .graph .worlds) (and-left limit _ e), not-true (s .proved) (and-left unproved _ r), not-true (empty (s .waiting)) (and-right unproved _ r)),
       λ (l, p, q). and-both limit _ (le-leb worldLimit (s .graph .worlds) l) (rw (p, q) refl),
     )
-  where
-    not-true : (b : Bool) → not b ≡ true → b ≡ false
-    not-true true e = true-false (sym e)
-    not-true false e = refl
+
+-- the third condition follows from the first
+pub late-at-limit : (n : ℕ) (F : Setting) (rs : List Rec) → let s = unlimitedRun n F (start F rs) in late F s ≡ (leb worldLimit (s .graph .worlds) && not (s .proved))
+unfolding late
+late-at-limit n F rs =
+    let s = unlimitedRun n F (start F rs) in
+    elim (either (leb worldLimit (s .graph .worlds))) [
+      | inl l ↦ rw (l, waits-at-limit n F rs (leb-true worldLimit (s .graph .worlds) l)) (and-true (not (s .proved)))
+      | inr l ↦ rw l refl
+    ]
 
 -- a run that has ended, is not full, and is neither proved nor late
 pub nothing-waits : (F : Setting) (rs : List Rec) → final F rs .proved ≡ false → late F (final F rs) ≡ false → full (final F rs) ≡ false → empty (final F rs .waiting) ≡ true
@@ -97,16 +103,14 @@ nothing-waits F rs unproved timely room =
     ]
 
 -- ---- the call
-abbrev LateAs : Setting → List Rec → Answer → Type 0
-LateAs F rs (refusal number place) = ⊥
-LateAs F rs (verdict v) = (v .late ≡ true) ↔ Unfinished F rs v
-
 pub late-exactly : LateExactly
-unfolding answerOf
-late-exactly branch flags lent v e =
-    let F = settingOf flags in
-    let (_, _, is) = answered (λ (r : Answer). r ≡ verdict v) (λ n i (q : refusal n i ≡ verdict v). let d : _≡_ {A = ℕ} 0 1 = cc in absurd (omega arith)) branch flags lent e in
-    subst (LateAs F (decode branch)) is (late-is F (final F (decode branch)))
+unfolding answer answerOf
+late-exactly branch flags lent = go (outcome branch flags (lengthsOf lent)) refl
+  where
+    go : (o : Outcome) → outcome branch flags (lengthsOf lent) ≡ o → LateIsUnfinished (settingOf flags) (decode branch) (answerOf (settingOf flags) o)
+    go (Refused c) e = tt
+    go Full e = tt
+    go (Ended s) e = subst (λ (s : State). LateIsUnfinished (settingOf flags) (decode branch) (answerOf (settingOf flags) (Ended s))) (ended-of branch flags (lengthsOf lent) s e .2) (late-is (settingOf flags) (final (settingOf flags) (decode branch)))
 
 pub open-is-finished : OpenIsFinished
 unfolding answerOf
