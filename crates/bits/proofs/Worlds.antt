@@ -1,7 +1,7 @@
 -- Laws of a set of worlds in a word.
 use Prim.Native.Nat.{ℕ, zero, suc, ◌+◌, ◌-◌, ◌*◌, ◌/◌, ◌%◌, ◌^◌, ◌≤◌, ◌<◌, min, max}
 use mathlib.Core.Path.{◌≡◌, refl, sym, ap, ap₂, ◌∙◌}
-use mathlib.Core.Bool.{Bool, true, false, cond, ◌&&◌, ◌||◌, and_false}
+use mathlib.Core.Bool.{Bool, true, false, cond, ◌&&◌, ◌||◌, and-false}
 use mathlib.Core.List.{List, [], ◌∷◌, map}
 use native.Mathlib.Numerals.{add-one}
 use native.Mathlib.Omega.{arith}
@@ -97,7 +97,7 @@ worlds_elem word y = set_elem word y 32
 
 -- a word without a bit
 pub worlds_none : worlds_in 0 ≡ []
-worlds_none = worlds_as (λ _. false) 0 0 (omega arith) (λ k h. no_bit k ∙ sym (and_false (ltb k 0)))
+worlds_none = worlds_as (λ _. false) 0 0 (omega arith) (λ k h. no_bit k ∙ sym (and-false (ltb k 0)))
 
 -- ---- the first world, digit by digit
 filter_suc : (p : ℕ → Bool) (m j : ℕ) → filter p (up_from m (suc j)) ≡ map suc (filter (λ i. p (suc i)) (up_from m j))

@@ -32,9 +32,9 @@ pub verdict_differs_lem :
 unfolding answer_differs said
 verdict_differs_lem e branch a t x y z = rw (x, ← y) z
 
-pub then-trays : {d r rest : Difference} → d ≡ D.Nothing → r ≡ rest → r ≡ or_else d rest
+pub then_trays : {d r rest : Difference} → d ≡ D.Nothing → r ≡ rest → r ≡ or_else d rest
 unfolding or_else
-then-trays e h = rw e h
+then_trays e h = rw e h
 
 -- the arm of all differences but Nothing
 pub differs : (d rest : Difference) → OneOf (1 ∷ 2 ∷ 3 ∷ 4 ∷ 5 ∷ 6 ∷ 7 ∷ []) (tag_of the_type d) → d ≡ or_else d rest

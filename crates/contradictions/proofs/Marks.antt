@@ -1,7 +1,7 @@
 -- The marks of the new leaves, one after the other, and what they tell.
 use Prim.Native.Nat.{ℕ, zero, suc, ◌+◌, ◌-◌, ◌<◌, ◌≤◌}
 use mathlib.Core.Path.{◌≡◌, refl, sym, ap, ◌∙◌, subst}
-use mathlib.Core.Bool.{Bool, true, false, ◌&&◌, and-true, and_assoc, and_false}
+use mathlib.Core.Bool.{Bool, true, false, ◌&&◌, and-true, and_assoc, and-false}
 use mathlib.Core.List.{List, [], ◌∷◌, ◌++◌, map}
 use mathlib.Core.Option.{Option}
 use mathlib.Core.Logic.{◌≢◌}
@@ -50,7 +50,7 @@ module _ (rs : List Rec) (t : List Node) (x : ℕ) {len : ℕ} {a : List ℕ} (h
   path_loose e q = not_bare (ap (λ (b : Bool). b && is_leaf (node_at t x).children) (code_loose (node_at t x).place e q))
 
   pub path_inner : {b : Bool} → b ≡ is_leaf (node_at t x).children → b ≡ false → Held (mark t (pair_at rs t x)) len a × (true ≡ closed_at rs t x)
-  path_inner e q = not_bare (rw (sym e ∙ q) (and_false (placed (node_at t x).place)))
+  path_inner e q = not_bare (rw (sym e ∙ q) (and-false (placed (node_at t x).place)))
 
 pub path_marked : (rs : List Rec) (t : List Node) (x : ℕ) (o : Option Pair) {len v : ℕ} {a z : List ℕ} {b r : Bool} → Held t len a → v ≡ place_code (node_at t x).place → v ≢ 65535 →
     b ≡ is_leaf (node_at t x).children → b ≡ true → (In (spots t) x → o ≡ pair_of rs t x) → Held (mark t o) len z → r ≡ is_pair o → Held (mark t (pair_at rs t x)) len z × (r ≡ closed_at rs t x)

@@ -1,7 +1,7 @@
 -- The search of a path for a pair.
 use Prim.Native.Nat.{ℕ, zero, suc, ◌+◌, ◌-◌, ◌<◌, ◌≤◌}
 use mathlib.Core.Path.{◌≡◌, refl, sym, ap, ◌∙◌, subst}
-use mathlib.Core.Bool.{Bool, true, false, cond, ◌&&◌, and_false}
+use mathlib.Core.Bool.{Bool, true, false, cond, ◌&&◌, and-false}
 use mathlib.Core.List.{List, [], ◌∷◌, ◌++◌, reverse, reverse-append}
 use mathlib.Core.Option.{Option, none, some, map}
 use mathlib.Core.Logic.{◌⊎◌, inl, inr, ⊎_elim, ◌≢◌}
@@ -56,9 +56,9 @@ pub claims_as : (rs : List Rec) {f g : ℕ} {c : Claim} → f ≡ g → Claims r
 claims_as rs {c = c} e k = subst (λ (v : ℕ). Claims rs (formula_of rs v) c) e k
 
 -- ---- the climb of `find_above`: the first that is found from the root on among what is left, and else the last one met
-else-none : {A : Type 0} (o : Option A) → or_else o none ≡ o
-else-none none = refl
-else-none (some x) = refl
+else_none : {A : Type 0} (o : Option A) → or_else o none ≡ o
+else_none none = refl
+else_none (some x) = refl
 
 find_snoc : (p : ℕ → Bool) (xs : List ℕ) (y : ℕ) → find p (xs ++ (y ∷ [])) ≡ or_else (find p xs) (cond (p y) (some y) none)
 find_snoc p [] y = refl
@@ -89,7 +89,7 @@ module _ (rs : List Rec) (t : List Node) (x : ℕ) where
   seeking_start len cur last k e h c l one =
       record {
         rest =
-            rw (l, one, c) (else-none (find against (reverse (upward (len - 1) t (node_at t x).parent)))
+            rw (l, one, c) (else_none (find against (reverse (upward (len - 1) t (node_at t x).parent)))
             ∙ ap (λ (xs : List ℕ). find against (reverse xs)) (ap (λ (n : ℕ). upward (n - 1) t (node_at t x).parent) (sym e) ∙ sym (up_tail t (length t) x h)));
       }
 
@@ -132,7 +132,7 @@ module _ (rs : List Rec) (t : List Node) (x : ℕ) where
       let d : empty (denied rs p) ≡ true = ap (empty {A = ℕ}) (sym k.denies) ∙ and_right (empty (atoms_in c.says)) _ both in
       ap (map (pair x)) (sym (nothing_found (λ y.
       let q = formula_of rs (node_at t y).formula in
-      rw ((no_atoms (said rs p) s (denied rs q)).0, (no_atoms (denied rs p) d (said rs q)).1) (and_false (eqb (node_at t x).world (node_at t y).world))) (earlier t x)))
+      rw ((no_atoms (said rs p) s (denied rs q)).0, (no_atoms (denied rs p) d (said rs q)).1) (and-false (eqb (node_at t x).world (node_at t y).world))) (earlier t x)))
 
 -- ---- the loop of `get_contradictory_node_ids`: the pair of the leaf is that of cur, which is in the tree or its root's parent
 pub record Searching (rs : List Rec) (t : List Node) (old leaf cur len k : ℕ) : Type 0 where

@@ -5,7 +5,7 @@ use Rattle.definition.specs.Records.{Kind, Atomic, Non, And, Or, Imply, BiImply,
 pub data Form : Type 0 where
   atom : ℕ → Form
   non : Form → Form
-  and or imply biImply strictImply : Form → Form → Form
+  and or imply bi_imply strict_imply : Form → Form → Form
   possible necessary : Form → Form
 
 -- the formula of a kind, by its first field and what its two links say; records of no kind are refused
@@ -15,8 +15,8 @@ form_by Non a p q = non p
 form_by And a p q = and p q
 form_by Or a p q = or p q
 form_by Imply a p q = imply p q
-form_by BiImply a p q = biImply p q
-form_by StrictImply a p q = strictImply p q
+form_by BiImply a p q = bi_imply p q
+form_by StrictImply a p q = strict_imply p q
 form_by Possible a p q = possible p
 form_by Necessary a p q = necessary p
 form_by Unknown a p q = atom 0

@@ -3,7 +3,7 @@ use Rattle.std.specs.Prelude.{Bool, true, not, ◌&&◌, ◌||◌, ◌≡◌, �
 use Rattle.std.specs.Bool.{beq}
 use Rattle.definition.specs.Lists.{any, all, below}
 use Rattle.definition.specs.Setting.{Setting}
-use Rattle.definition.specs.Formula.{Form, atom, non, and, or, imply, biImply, strictImply, possible, necessary}
+use Rattle.definition.specs.Formula.{Form, atom, non, and, or, imply, bi_imply, strict_imply, possible, necessary}
 
 -- "Finitely many worlds", the numbers below size; "a set of pairs of them"; "a truth value per world and atom number".
 -- "At least one": whoever names a world of the model has one
@@ -19,8 +19,8 @@ truth M (non p) w = not (truth M p w)
 truth M (and p q) w = truth M p w && truth M q w
 truth M (or p q) w = truth M p w || truth M q w
 truth M (imply p q) w = not (truth M p w) || truth M q w
-truth M (biImply p q) w = beq (truth M p w) (truth M q w)
-truth M (strictImply p q) w = all (λ v. not (M.reach w v) || (not (truth M p v) || truth M q v)) (below M.size)
+truth M (bi_imply p q) w = beq (truth M p w) (truth M q w)
+truth M (strict_imply p q) w = all (λ v. not (M.reach w v) || (not (truth M p v) || truth M q v)) (below M.size)
 truth M (possible p) w = any (λ v. M.reach w v && truth M p v) (below M.size)
 truth M (necessary p) w = all (λ v. not (M.reach w v) || truth M p v) (below M.size)
 

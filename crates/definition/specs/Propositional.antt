@@ -2,7 +2,7 @@
 use Rattle.std.specs.Prelude.{Bool, true, List, ℕ}
 use Rattle.definition.specs.Lists.{Each}
 use Rattle.definition.specs.Records.{Rec, marks}
-use Rattle.definition.specs.Formula.{Form, atom, non, and, or, imply, biImply, strictImply, possible, necessary, form_at, branch_of}
+use Rattle.definition.specs.Formula.{Form, atom, non, and, or, imply, bi_imply, strict_imply, possible, necessary, form_at, branch_of}
 use Rattle.definition.specs.Models.{Model}
 use Rattle.definition.specs.Claim.{Satisfied}
 
@@ -13,8 +13,8 @@ Plain (non p) = Plain p
 Plain (and p q) = Plain p × Plain q
 Plain (or p q) = Plain p × Plain q
 Plain (imply p q) = Plain p × Plain q
-Plain (biImply p q) = Plain p × Plain q
-Plain (strictImply p q) = ⊥
+Plain (bi_imply p q) = Plain p × Plain q
+Plain (strict_imply p q) = ⊥
 Plain (possible p) = ⊥
 Plain (necessary p) = ⊥
 

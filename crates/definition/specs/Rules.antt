@@ -1,7 +1,7 @@
 -- "Rules": Priest's table on formulas, and the rule chosen on records.
 use Rattle.std.specs.Prelude.{List, [], ◌∷◌, map, ℕ, suc, length}
 use Rattle.definition.specs.Records.{Kind, Atomic, Non, And, Or, Imply, BiImply, StrictImply, Possible, Necessary, Unknown, Comment, Rec, made, rec_at, formula_of}
-use Rattle.definition.specs.Formula.{Form, atom, non, and, or, imply, biImply, strictImply, possible, necessary}
+use Rattle.definition.specs.Formula.{Form, atom, non, and, or, imply, bi_imply, strict_imply, possible, necessary}
 
 -- what a rule puts on the paths through its node: nothing; formulas at this world, one below the other; a left and a right chain of them;
 -- a formula at a new world that this one reaches; a formula at every world that this one reaches
@@ -19,8 +19,8 @@ priest_non (non p) = down (p ∷ [])
 priest_non (and p q) = split (non p ∷ []) (non q ∷ [])
 priest_non (or p q) = down (non p ∷ non q ∷ [])
 priest_non (imply p q) = down (p ∷ non q ∷ [])
-priest_non (biImply p q) = split (p ∷ non q ∷ []) (non p ∷ q ∷ [])
-priest_non (strictImply p q) = as_possible (non (imply p q))
+priest_non (bi_imply p q) = split (p ∷ non q ∷ []) (non p ∷ q ∷ [])
+priest_non (strict_imply p q) = as_possible (non (imply p q))
 priest_non (possible p) = down (necessary (non p) ∷ [])
 priest_non (necessary p) = down (possible (non p) ∷ [])
 
@@ -31,8 +31,8 @@ priest (non p) = priest_non p
 priest (and p q) = down (p ∷ q ∷ [])
 priest (or p q) = split (p ∷ []) (q ∷ [])
 priest (imply p q) = split (non p ∷ []) (q ∷ [])
-priest (biImply p q) = split (p ∷ q ∷ []) (non p ∷ non q ∷ [])
-priest (strictImply p q) = as_necessary (imply p q)
+priest (bi_imply p q) = split (p ∷ q ∷ []) (non p ∷ non q ∷ [])
+priest (strict_imply p q) = as_necessary (imply p q)
 priest (possible p) = as_possible p
 priest (necessary p) = as_necessary p
 

@@ -9,7 +9,7 @@ use lib.ListN.{length, length-append}
 use borrow.Author.Tests.{lt-ltb, le-ltb}
 use Rattle.definition.specs.Lists.{Each}
 use Rattle.definition.specs.Records.{Kind, Atomic, Non, And, Or, Imply, BiImply, StrictImply, Possible, Necessary, kind_of, number_of, Rec}
-use Rattle.definition.specs.Formula.{Form, atom, non, and, or, imply, biImply, strictImply, possible, necessary, form_by}
+use Rattle.definition.specs.Formula.{Form, atom, non, and, or, imply, bi_imply, strict_imply, possible, necessary, form_by}
 use Rattle.definition.proofs.Basics.Lists.{each_append}
 use Rattle.grammar.specs.Tokens.{Sign, Tilde, Box, Diamond, Joint, Ampersand, Bar, Arrow, Double, Both, signed, joined, level, loosest, Side, leftward, rightward, side}
 use Rattle.grammar.specs.Lines.{rec, over, between, records_of}
@@ -95,8 +95,8 @@ module _ (P : Form → Type 0) (of-atom : (a : ℕ) → P (atom a)) (of-over : (
   by_kinds (and p r) = of-between And p r (and p r) (record { known = refl; records = λ m n. refl; says = λ a. refl }) (by_kinds p) (by_kinds r)
   by_kinds (or p r) = of-between Or p r (or p r) (record { known = refl; records = λ m n. refl; says = λ a. refl }) (by_kinds p) (by_kinds r)
   by_kinds (imply p r) = of-between Imply p r (imply p r) (record { known = refl; records = λ m n. refl; says = λ a. refl }) (by_kinds p) (by_kinds r)
-  by_kinds (biImply p r) = of-between BiImply p r (biImply p r) (record { known = refl; records = λ m n. refl; says = λ a. refl }) (by_kinds p) (by_kinds r)
-  by_kinds (strictImply p r) = of-between StrictImply p r (strictImply p r) (record { known = refl; records = λ m n. refl; says = λ a. refl }) (by_kinds p) (by_kinds r)
+  by_kinds (bi_imply p r) = of-between BiImply p r (bi_imply p r) (record { known = refl; records = λ m n. refl; says = λ a. refl }) (by_kinds p) (by_kinds r)
+  by_kinds (strict_imply p r) = of-between StrictImply p r (strict_imply p r) (record { known = refl; records = λ m n. refl; says = λ a. refl }) (by_kinds p) (by_kinds r)
   by_kinds (possible p) = of-over Possible p (possible p) (record { known = refl; records = λ m n. refl; says = λ a y. refl }) (by_kinds p)
   by_kinds (necessary p) = of-over Necessary p (necessary p) (record { known = refl; records = λ m n. refl; says = λ a y. refl }) (by_kinds p)
 

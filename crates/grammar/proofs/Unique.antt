@@ -86,9 +86,9 @@ loosened l ts p r x h g = ev_suc (λ m. phrase m (suc l) ts) x (ev_then (λ m. p
 regrouped : (l : ℕ) (ts us r : List Token) (t : Token) (x : Res) → Ev (λ m. phrase m l (ts ++ (t ∷ (us ++ r)))) x → Ev (λ m. phrase m l ((ts ++ (t ∷ us)) ++ r)) x
 regrouped l ts us r t x h = subst (λ (v : List Token). Ev (λ m. phrase m l v) x) (sym (append_assoc ts (t ∷ us) r)) h
 
-in-brackets : (ts : List Token) (p : Form) (r : List Token) → Ev (λ m. phrase m loosest (ts ++ (closing ∷ r))) (ok p (closing ∷ r)) → Ev (λ m. phrase m 0 (opening ∷ ((ts ++ (closing ∷ [])) ++ r))) (ok p r)
+in_brackets : (ts : List Token) (p : Form) (r : List Token) → Ev (λ m. phrase m loosest (ts ++ (closing ∷ r))) (ok p (closing ∷ r)) → Ev (λ m. phrase m 0 (opening ∷ ((ts ++ (closing ∷ [])) ++ r))) (ok p r)
 unfolding phrase more
-in-brackets ts p r h =
+in_brackets ts p r h =
     subst (λ (v : List Token). Ev (λ m. phrase m 0 (opening ∷ v)) (ok p r)) (sym (append_assoc ts (closing ∷ []) r))
     (ev_suc (λ m. phrase m 0 (opening ∷ (ts ++ (closing ∷ r)))) (ok p r) (ev_then (λ m. phrase m loosest (ts ++ (closing ∷ r))) (λ m. closed) p (closing ∷ r) (ok p r) h (ev_is _ _ (λ m. refl))))
 
@@ -112,7 +112,7 @@ reads : {l : ℕ} {us : List Token} {p : Form} → Phrase l us p → Whole l us 
 unfolding NoRight
 reads (named {n = a}) = ((λ r e. names a r), tt)
 reads (under {s = s} {ts = ts} {p = p} d) = ((λ r e. signs s (ts ++ r) p r ((reads d).0 r e)), tt)
-reads (bracketed {ts = ts} {p = p} d) = ((λ r e. in-brackets ts p r ((reads d).0 (closing ∷ r) tt)), tt)
+reads (bracketed {ts = ts} {p = p} d) = ((λ r e. in_brackets ts p r ((reads d).0 (closing ∷ r) tt)), tt)
 reads (single {l = l} {ts = ts} {p = p} d) = (
   (λ r e. loosened l (ts ++ r) p r (ok p r) ((reads d).0 r (weaker l r e)) (more_stops l p r e)),
   (λ nr r e x g. loosened l (ts ++ r) p r x ((reads d).0 r e) g),

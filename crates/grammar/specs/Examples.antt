@@ -2,7 +2,7 @@
 use Rattle.std.specs.Prelude.{List, [], ◌∷◌, ℕ}
 use Prim.Native.Char.{code}
 use Prim.Native.String.{String, [] as empty, ◌∷◌ as ◌then◌}
-use Rattle.definition.specs.Formula.{Form, atom, non, and, or, imply, biImply, strictImply, possible, necessary}
+use Rattle.definition.specs.Formula.{Form, atom, non, and, or, imply, bi_imply, strict_imply, possible, necessary}
 use Rattle.grammar.specs.Reading.{Reads, UnreadableAt}
 
 -- its formulas, or the offset where it is garbled
@@ -58,11 +58,11 @@ table =
     ∷ takes "a0 & a1 | a2\n" (or (and a0 a1) a2 ∷ [])
     ∷ takes "a0|a1&a2\n" (or a0 (and a1 a2) ∷ [])
     ∷ takes "a0 | a1 -> a2\n" (imply (or a0 a1) a2 ∷ [])
-    ∷ takes "a0 -> a1 => a2\n" (imply a0 (strictImply a1 a2) ∷ [])
-    ∷ takes "a0 => a1 -> a2\n" (strictImply a0 (imply a1 a2) ∷ [])
-    ∷ takes "a0 <-> a1 -> a2\n" (biImply a0 (imply a1 a2) ∷ [])
-    ∷ takes "a0 -> a1 <-> a2\n" (biImply (imply a0 a1) a2 ∷ [])
-    ∷ takes "a0 <-> a1 <-> a2\n" (biImply a0 (biImply a1 a2) ∷ [])
+    ∷ takes "a0 -> a1 => a2\n" (imply a0 (strict_imply a1 a2) ∷ [])
+    ∷ takes "a0 => a1 -> a2\n" (strict_imply a0 (imply a1 a2) ∷ [])
+    ∷ takes "a0 <-> a1 -> a2\n" (bi_imply a0 (imply a1 a2) ∷ [])
+    ∷ takes "a0 -> a1 <-> a2\n" (bi_imply (imply a0 a1) a2 ∷ [])
+    ∷ takes "a0 <-> a1 <-> a2\n" (bi_imply a0 (bi_imply a1 a2) ∷ [])
     ∷ takes "a0 & a1 & a2\n" (and (and a0 a1) a2 ∷ [])
     ∷ takes "a0 | a1 | a2\n" (or (or a0 a1) a2 ∷ [])
     ∷ takes "a0 & (a1 & a2)\n" (and a0 (and a1 a2) ∷ [])

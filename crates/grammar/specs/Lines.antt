@@ -3,7 +3,7 @@ use Rattle.std.specs.Prelude.{List, [], ◌∷◌, ◌++◌, ℕ, ◌+◌, ◌-�
 use Rattle.definition.specs.Limits.{text_tray_length}
 use Rattle.definition.specs.Lists.{concat_map, padded}
 use Rattle.definition.specs.Records.{Kind, Atomic, Non, And, Or, Imply, BiImply, StrictImply, Possible, Necessary, Rec}
-use Rattle.definition.specs.Formula.{Form, atom, non, and, or, imply, biImply, strictImply, possible, necessary}
+use Rattle.definition.specs.Formula.{Form, atom, non, and, or, imply, bi_imply, strict_imply, possible, necessary}
 use Rattle.definition.specs.Trays.{record_bytes}
 
 -- a record by its mark, kind and two fields
@@ -27,8 +27,8 @@ records_of (non p) m n = over Non (records_of p 0) m n
 records_of (and p q) m n = between And (records_of p 0) (records_of q 0) m n
 records_of (or p q) m n = between Or (records_of p 0) (records_of q 0) m n
 records_of (imply p q) m n = between Imply (records_of p 0) (records_of q 0) m n
-records_of (biImply p q) m n = between BiImply (records_of p 0) (records_of q 0) m n
-records_of (strictImply p q) m n = between StrictImply (records_of p 0) (records_of q 0) m n
+records_of (bi_imply p q) m n = between BiImply (records_of p 0) (records_of q 0) m n
+records_of (strict_imply p q) m n = between StrictImply (records_of p 0) (records_of q 0) m n
 records_of (possible p) m n = over Possible (records_of p 0) m n
 records_of (necessary p) m n = over Necessary (records_of p 0) m n
 

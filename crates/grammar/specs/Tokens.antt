@@ -1,6 +1,6 @@
 -- The tokens of a text, the formula that each connective makes, and what binds how tightly.
 use Rattle.std.specs.Prelude.{ℕ}
-use Rattle.definition.specs.Formula.{Form, non, and, or, imply, biImply, strictImply, possible, necessary}
+use Rattle.definition.specs.Formula.{Form, non, and, or, imply, bi_imply, strict_imply, possible, necessary}
 
 -- "~, [] (Necessary) and <> (Possible)": the connectives of one formula, in this order
 pub data Sign : Type 0 where
@@ -29,8 +29,8 @@ unfoldable pub joined : Joint → Form → Form → Form
 joined Ampersand p q = and p q
 joined Bar p q = or p q
 joined Arrow p q = imply p q
-joined Double p q = strictImply p q
-joined Both p q = biImply p q
+joined Double p q = strict_imply p q
+joined Both p q = bi_imply p q
 
 -- "bind tightest, then &, then |, then -> and => (strict) together, then <->": the level of a joint, the smaller the tighter; level 0 has no joint:
 -- there stand atoms, signs and brackets

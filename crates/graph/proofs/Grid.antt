@@ -1,7 +1,7 @@
 -- Laws of the array of edges.
 use Prim.Native.Nat.{ℕ, zero, suc, ◌+◌, ◌*◌, ◌/◌, ◌%◌, ◌≤◌, ◌<◌}
 use mathlib.Core.Path.{◌≡◌, refl, sym, ap, ◌∙◌}
-use mathlib.Core.Bool.{Bool, true, false, cond, ◌&&◌, ◌||◌, or_true}
+use mathlib.Core.Bool.{Bool, true, false, cond, ◌&&◌, ◌||◌, or-true}
 use mathlib.Core.Logic.{◌⊎◌, ⊎_elim}
 use mathlib.Core.List.{List, [], map}
 use native.Mathlib.Omega.{arith}
@@ -60,7 +60,7 @@ grid_same e f h = grid_by (grid e) f (grid_length e) (λ k b. grid_at e k b ∙ 
 -- ---- one edge more
 pub with_hit : (e : ℕ → ℕ → Bool) (u v a b : ℕ) → a ≡ u → b ≡ v → with_vertex e u v a b ≡ true
 unfolding with_vertex
-with_hit e u v a b p q = rw (eq-eqb a u p, eq-eqb b v q) (or_true (e a b))
+with_hit e u v a b p q = rw (eq-eqb a u p, eq-eqb b v q) (or-true (e a b))
 
 pub with_miss : (e : ℕ → ℕ → Bool) (u v a b : ℕ) → (a ≡ u → b ≡ v → ⊥) → with_vertex e u v a b ≡ e a b
 unfolding with_vertex

@@ -1,7 +1,7 @@
 -- Laws of a scan that adds, pair after pair, each edge that a rule gives, and of a search through the worlds.
 use Prim.Native.Nat.{ℕ, zero, suc, ◌+◌, ◌-◌, ◌*◌, ◌/◌, ◌%◌, ◌≤◌, ◌<◌}
 use mathlib.Core.Path.{◌≡◌, refl, sym, ap, ◌∙◌}
-use mathlib.Core.Bool.{Bool, true, false, cond, ◌&&◌, ◌||◌, or_true, or-false}
+use mathlib.Core.Bool.{Bool, true, false, cond, ◌&&◌, ◌||◌, or-true, or-false}
 use mathlib.Core.Logic.{⊎_elim}
 use mathlib.Core.List.{List}
 use native.Mathlib.Numerals.{add-one}
@@ -38,7 +38,7 @@ module _ (e x : ℕ → ℕ → Bool) where
   here n u v b h q = go b (scanned_out n u v (λ k. absurd (omega arith))) (with_hit (scanned e x n) u v u v refl refl) ∙ ap (λ (c : Bool). e u v || c) q ∙ sym (scanned_in (n + 1) u v (omega arith))
     where
       go : (c : Bool) → scanned e x n u v ≡ e u v → with_vertex (scanned e x n) u v u v ≡ true → cond c (with_vertex (scanned e x n) u v) (scanned e x n) u v ≡ (e u v || c)
-      go true k l = l ∙ sym (or_true (e u v))
+      go true k l = l ∙ sym (or-true (e u v))
       go false k l = k ∙ sym (or-false (e u v))
 
   -- another pair

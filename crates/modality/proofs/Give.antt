@@ -1,7 +1,7 @@
 -- Worlds that are kept, leaves that are kept, and nodes that are made for worlds that are kept.
 use Prim.Native.Nat.{ℕ, ◌+◌, ◌%◌, ◌<◌, ◌≤◌}
 use mathlib.Core.Path.{◌≡◌, refl, sym, ap, ap₂, ◌∙◌}
-use mathlib.Core.Bool.{Bool, true, false, not, ◌&&◌, ◌||◌, and_false}
+use mathlib.Core.Bool.{Bool, true, false, not, ◌&&◌, ◌||◌, and-false}
 use mathlib.Core.List.{List, [], ◌∷◌, ◌++◌, map, append_assoc, append-nil}
 use mathlib.Core.Logic.{◌⊎◌, ◌≢◌, inl, inr}
 use native.Mathlib.Omega.{arith}
@@ -57,7 +57,7 @@ marks_next q v x word more {b} e low pass put marked k h = put k h ∙ go (alike
 
     go : (k ≡ v) ⊎ (k ≢ v) → ((b && eqb k (x % 32)) || bit_of word k) ≡ (ltb k (v + 1) && q k)
     go (inl d) = rw (marked k h, eq-eqb k (x % 32) (d ∙ sym same), le-ltb k v (omega (arith, d)), lt-ltb k (v + 1) (omega (arith, d))) (both b ∙ pass ∙ ap q (e ∙ sym d))
-    go (inr d) = rw (marked k h, ne_eqb k (x % 32) (λ f. d (f ∙ same)), and_false b) (ap (λ (c : Bool). c && q k) (later (ltb k v) refl))
+    go (inr d) = rw (marked k h, ne_eqb k (x % 32) (λ f. d (f ∙ same)), and-false b) (ap (λ (c : Bool). c && q k) (later (ltb k v) refl))
       where
         later : (c : Bool) → ltb k v ≡ c → ltb k v ≡ ltb k (v + 1)
         later true f = f ∙ sym (lt-ltb k (v + 1) (omega (arith, ltb-true k v f)))

@@ -14,7 +14,7 @@ use Rattle.definition.specs.Modality.{Necessity, Fork, is_reapplied}
 use Rattle.definition.proofs.Basics.Lists.{alike}
 use Rattle.definition.proofs.Tree.Nodes.{node_append}
 use Rattle.definition.specs.TreeShape.{placed, spots, In, Treed}
-use Rattle.definition.proofs.Tree.Shape.{in-range, leaves_nobody}
+use Rattle.definition.proofs.Tree.Shape.{in_range, leaves_nobody}
 use Rattle.definition.proofs.Engine.BelowTarget.{through_is, through_out}
 use Rattle.definition.specs.Shortcuts.{ThroughSpawner}
 use Rattle.definition.proofs.Engine.Reapplied.{reapplied_is, reapplied_out, reapplied_loose}
@@ -32,7 +32,7 @@ module _ (t : List Node) (r : Treed t) (more : List Node) (room : length (t ++ m
   unfolding leaves_below child_at
   same_below zero x i = refl
   same_below (suc k) x i =
-      rw (node_append t more x (in-range t x i))
+      rw (node_append t more x (in_range t x i))
       (ap (cond (is_leaf (node_at t x).children) (only x)) (ap₂ ◌++◌ (child Left (same_below k)) (ap₂ ◌++◌ (child Middle (same_below k)) (child Right (same_below k)))))
     where
       child : (p : Place) → ((y : ℕ) → In (spots t) y → leaves_below k (t ++ more) y ≡ leaves_below k t y) → leaves_below k (t ++ more) (child_at p (node_at t x).children) ≡ leaves_below k t (child_at p (node_at t x).children)

@@ -1,7 +1,7 @@
 -- The worlds that occur on a path, gathered from its nodes.
 use Prim.Native.Nat.{ℕ, zero, suc, ◌+◌, ◌-◌, ◌%◌, ◌<◌, ◌≤◌}
 use mathlib.Core.Path.{◌≡◌, refl, sym, ap, ◌∙◌, subst}
-use mathlib.Core.Bool.{Bool, true, false, cond, ◌&&◌, ◌||◌, and-true, and_false, or-false}
+use mathlib.Core.Bool.{Bool, true, false, cond, ◌&&◌, ◌||◌, and-true, and-false, or-false}
 use mathlib.Core.List.{List, [], ◌∷◌}
 use mathlib.Core.Option.{Option, none, some}
 use mathlib.Core.Logic.{⊎_elim, ◌≢◌}
@@ -66,7 +66,7 @@ module _ (t : List Node) (f : Forking) (x : ℕ) {b : Bool} (at : b ≡ (f.on &&
 
       go : (on : Bool) → b ≡ (on && eqb f.node.0 x) → forked_at (cond on (some k) none) v x ≡ (eqb v f.world.0 && b)
       go true e = ap (λ (c : Bool). eqb v f.world.0 && c) (sym e)
-      go false e = sym (ap (λ (c : Bool). eqb v f.world.0 && c) e ∙ and_false (eqb v f.world.0))
+      go false e = sym (ap (λ (c : Bool). eqb v f.world.0 && c) e ∙ and-false (eqb v f.world.0))
 
   module _ {w : ℕ} (word here : ℕ) (own : w ≡ (node_at t x).world) (put : (k : ℕ) → k < 32 → bit_of here k ≡ (eqb w k || bit_of word k)) where
     own_world : (v : ℕ) → v < 32 → bit_of here v ≡ (eqb (node_at t x).world v || bit_of word v)
@@ -75,7 +75,7 @@ module _ (t : List Node) (f : Forking) (x : ℕ) {b : Bool} (at : b ≡ (f.on &&
     pub brings_own : b ≡ false → (v : ℕ) → v < 32 → bit_of here v ≡ (brings t (fork_of f) v x || bit_of word v)
     unfolding brings
     brings_own h v low =
-        let no : forked_at (fork_of f) v x ≡ false = forked_by v ∙ ap (λ (c : Bool). eqb v f.world.0 && c) h ∙ and_false (eqb v f.world.0) in
+        let no : forked_at (fork_of f) v x ≡ false = forked_by v ∙ ap (λ (c : Bool). eqb v f.world.0 && c) h ∙ and-false (eqb v f.world.0) in
         own_world v low ∙ ap (λ (c : Bool). c || bit_of word v) (sym (or-false (eqb (node_at t x).world v)) ∙ ap (λ (c : Bool). eqb (node_at t x).world v || c) (sym no))
 
     pub brings_forked : b ≡ true → (both : ℕ) → ((k : ℕ) → k < 32 → bit_of both k ≡ (eqb f.world.0 k || bit_of here k)) → (v : ℕ) → v < 32 → bit_of both v ≡ (brings t (fork_of f) v x || bit_of word v)

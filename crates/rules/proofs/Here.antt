@@ -1,7 +1,7 @@
 -- Nodes made one after the other, and the identifiers that they get.
 use Prim.Native.Nat.{ℕ, ◌+◌, ◌≤◌, ◌<◌}
 use mathlib.Core.Path.{◌≡◌, refl, sym, ap, ◌∙◌, subst}
-use mathlib.Core.List.{List, [], ◌∷◌, ◌++◌, map, reverse, append_assoc, append-nil, map_append}
+use mathlib.Core.List.{List, [], ◌∷◌, ◌++◌, map, reverse, append_assoc, append-nil, map-append}
 use native.Mathlib.Omega.{arith}
 use lib.ListN.{length, length-append, length-map, length-reverse}
 use Rattle.definition.specs.Limits.{most_identifiers}
@@ -80,7 +80,7 @@ module _ {ns : List Node} {n : ℕ} {a : List ℕ} (x w : ℕ) (has : Held ns n 
       let fs = f ∷ rest in
       let z : (length ns + length fs) + 0 ≡ length ns + length fs = omega arith in
       let both = map (λ (f : ℕ). new_node x f w) (reverse fs ++ reverse gs) in
-      let parts : nodes fs ++ map (λ (f : ℕ). new_node x f w) (reverse gs) ≡ both = sym (map_append (λ (f : ℕ). new_node x f w) (reverse fs) (reverse gs)) in
+      let parts : nodes fs ++ map (λ (f : ℕ). new_node x f w) (reverse gs) ≡ both = sym (map-append (λ (f : ℕ). new_node x f w) (reverse fs) (reverse gs)) in
       let t : length (ns ++ both) ≡ length ns + (length fs + length gs) = simp (length-append, length-map, length-reverse) in
       let half = nodes_length fs in
       let left : length (ns ++ both) ≤ most_identifiers → s ≡ length ns = λ h. first id (omega (arith, h, t)) in

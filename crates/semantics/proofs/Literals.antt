@@ -1,7 +1,7 @@
 -- What a record says and denies, by its kind's number and its fields' as they are read.
 use Prim.Native.Nat.{ℕ, ◌≤◌}
 use mathlib.Core.Path.{◌≡◌, refl, sym, ◌∙◌, subst}
-use mathlib.Core.Bool.{Bool, true, false, and-true, and_false}
+use mathlib.Core.Bool.{Bool, true, false, and-true, and-false}
 use mathlib.Core.List.{List, [], ◌∷◌}
 use lib.Dec.{eqb}
 use borrow.Author.Tests.{eq-eqb, ne_eqb}
@@ -90,11 +90,11 @@ module _ (a x : ℕ) where
 
   pub atom_pair : (y : ℕ) → false ≡ opposed (a ∷ []) (x ∷ y ∷ [])
   unfolding opposed
-  atom_pair y = sym (and_false (eqb a x))
+  atom_pair y = sym (and-false (eqb a x))
 
   pub pair_atom : (b : ℕ) → false ≡ opposed (a ∷ b ∷ []) (x ∷ [])
   unfolding opposed
-  pair_atom b = sym (and_false (eqb a x))
+  pair_atom b = sym (and-false (eqb a x))
 
   pub pair_pair : (b y : ℕ) → a ≡ x → eqb b y ≡ opposed (a ∷ b ∷ []) (x ∷ y ∷ [])
   unfolding opposed

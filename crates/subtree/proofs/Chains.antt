@@ -2,7 +2,7 @@
 use Prim.Native.Nat.{ℕ, ◌+◌, ◌<◌, ◌≤◌}
 use mathlib.Core.Path.{◌≡◌, refl, sym, ap, ◌∙◌, subst}
 use mathlib.Core.Bool.{Bool, true, false, cond, not}
-use mathlib.Core.List.{List, [], ◌∷◌, ◌++◌, map, reverse, append_assoc, append-nil, reverse-reverse, map_append}
+use mathlib.Core.List.{List, [], ◌∷◌, ◌++◌, map, reverse, append_assoc, append-nil, reverse-reverse, map-append}
 use native.Mathlib.Omega.{arith}
 use native.Mathlib.Numerals.{add-one}
 use lib.ListN.{length, get_or, take, length-append}
@@ -61,7 +61,7 @@ more t c = t ++ map (copied t) c
 snoc_copy : (t : List Node) (ch : List ℕ) (k : ℕ) → k < length ch → more t (take k ch) ++ (copied t (get_or ch k 0) ∷ []) ≡ more t (take (k + 1) ch)
 snoc_copy t ch k h =
     append_assoc t (map (copied t) (take k ch)) (copied t (get_or ch k 0) ∷ [])
-    ∙ ap (λ (v : List Node). t ++ v) (sym (map_append (copied t) (take k ch) (get_or ch k 0 ∷ [])))
+    ∙ ap (λ (v : List Node). t ++ v) (sym (map-append (copied t) (take k ch) (get_or ch k 0 ∷ [])))
     ∙ ap (λ (v : List ℕ). more t v) (sym (take-suc ch k 0 h))
     ∙ ap (λ (j : ℕ). more t (take j ch)) (sym (add-one k))
 

@@ -1,7 +1,7 @@
 -- A subtree's three chains: counted, copied, numbered, linked and queued one after the other.
 use Prim.Native.Nat.{ℕ, ◌+◌, ◌<◌, ◌≤◌}
 use mathlib.Core.Path.{◌≡◌, refl, sym, ap, ◌∙◌, subst}
-use mathlib.Core.List.{List, [], ◌∷◌, ◌++◌, map, reverse, append_assoc, map_append}
+use mathlib.Core.List.{List, [], ◌∷◌, ◌++◌, map, reverse, append_assoc, map-append}
 use native.Mathlib.Omega.{arith}
 use lib.ListN.{length, length-append, length-map}
 use Rattle.definition.specs.Limits.{most_identifiers}
@@ -49,7 +49,7 @@ more_more : (t : List Node) (xs ys : List ℕ) → Each (λ x. x < length t) ys 
 more_more t xs ys e =
     ap (λ (v : List Node). more t xs ++ v) (copied_more t (map (copied t) xs) ys e)
     ∙ append_assoc t (map (copied t) xs) (map (copied t) ys)
-    ∙ ap (λ (v : List Node). t ++ v) (sym (map_append (copied t) xs ys))
+    ∙ ap (λ (v : List Node). t ++ v) (sym (map-append (copied t) xs ys))
 
 abbrev Copies : Chain → ℕ → List ℕ → ℕ → List ℕ → Type 0
 Copies c n a m b = (ms : List Node) → Held ms n a → ChainBelow c (length ms) → Held (ms ++ map (copied ms) (chain_of c)) m b

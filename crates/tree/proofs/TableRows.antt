@@ -29,10 +29,10 @@ nobodies zero i = refl
 nobodies (suc k) zero = refl
 nobodies (suc k) (suc i) = nobodies k i
 
-then-nobodies : (l : List ℕ) (k i : ℕ) → get_or (l ++ replicate k nobody) i nobody ≡ get_or l i nobody
-then-nobodies [] k i = nobodies k i
-then-nobodies (x ∷ l) k zero = refl
-then-nobodies (x ∷ l) k (suc i) = then-nobodies l k i
+then_nobodies : (l : List ℕ) (k i : ℕ) → get_or (l ++ replicate k nobody) i nobody ≡ get_or l i nobody
+then_nobodies [] k i = nobodies k i
+then_nobodies (x ∷ l) k zero = refl
+then_nobodies (x ∷ l) k (suc i) = then_nobodies l k i
 
 -- within a list it does not matter what would be read beyond it
 get_or_within : (l : List ℕ) (i d e : ℕ) → i < length l → get_or l i d ≡ get_or l i e
@@ -45,7 +45,7 @@ unfolding lay
 read_at ns {a} i j z g b =
     get_or_within a (i * node_fields + j) 0 nobody (omega (arith, ap length z.laid ∙ lay_length ns z.fits))
     ∙ ap (λ (l : List ℕ). get_or l (i * node_fields + j) nobody) z.laid
-    ∙ then-nobodies (rows ns) ((most_identifiers - length ns) * node_fields) (i * node_fields + j)
+    ∙ then_nobodies (rows ns) ((most_identifiers - length ns) * node_fields) (i * node_fields + j)
     ∙ rows_read row (λ n. refl) ns blank i j nobody (λ past. sym (nobodies node_fields j)) b
 
 pub read_row_out : (ns : List Node) (i j : ℕ) → length ns ≤ most_identifiers → most_identifiers ≤ i → nobody ≡ get_or (row (node_at ns i)) j nobody

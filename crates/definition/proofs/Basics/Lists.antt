@@ -276,11 +276,15 @@ pub data Zip {A B : Type 0} (R : A → B → Type 0) : List A → List B → Typ
 module _ {A B : Type 0} (R : A → B → Type 0) where
   pub zip_right : (xs : List A) (ys : List B) → Zip R xs ys → (y : B) → Among y ys → Some (λ x. R x y) xs
   zip_right [] [] zip_nil y i = absurd i
+  zip_right [] (z ∷ ys) h y i = elim h [ ]
+  zip_right (x ∷ xs) [] h y i = elim h [ ]
   zip_right (x ∷ xs) (z ∷ ys) (zip_cons h k) y (inl e) = inl (subst (R x) e h)
   zip_right (x ∷ xs) (z ∷ ys) (zip_cons h k) y (inr i) = inr (zip_right xs ys k y i)
 
   pub zip_left : (xs : List A) (ys : List B) → Zip R xs ys → (x : A) → Among x xs → Some (R x) ys
   zip_left [] [] zip_nil x i = absurd i
+  zip_left [] (y ∷ ys) h x i = elim h [ ]
+  zip_left (z ∷ xs) [] h x i = elim h [ ]
   zip_left (z ∷ xs) (y ∷ ys) (zip_cons h k) x (inl e) = inl (subst (λ w. R w y) e h)
   zip_left (z ∷ xs) (y ∷ ys) (zip_cons h k) x (inr i) = inr (zip_left xs ys k x i)
 

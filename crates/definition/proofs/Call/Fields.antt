@@ -26,7 +26,7 @@ use Rattle.definition.proofs.Tree.Labels.{node_after}
 use Rattle.definition.proofs.Tree.NewNodes.{apply_each}
 use Rattle.definition.proofs.Run.Stepping.{checked_both, step_keeps, run_keeps}
 use Rattle.definition.specs.TreeShape.{Treed, Bare, spots}
-use Rattle.definition.proofs.Tree.Shape.{in-range, parent_in, path_distinct, leaves_bare}
+use Rattle.definition.proofs.Tree.Shape.{in_range, parent_in, path_distinct, leaves_bare}
 use Rattle.definition.proofs.Run.TreeKept.{check_keeps, appended_keeps, begun_treed}
 
 pub more_number : (m n x : ℕ) → m ≤ n → Number m x → Number n x
@@ -35,7 +35,7 @@ more_number m n x h (inr e) = inr (omega arith)
 
 -- a parent is a node of the tree
 pub parent_number : (t : List Node) → Treed t → (x : ℕ) → Number (length t) (node_at t x).parent
-parent_number t r x = ⊎_elim (λ e. inl e) (λ e. inr (in-range t (node_at t x).parent e)) (parent_in (spots t) r x)
+parent_number t r x = ⊎_elim (λ e. inl e) (λ e. inr (in_range t (node_at t x).parent e)) (parent_in (spots t) r x)
 
 -- every contrarian is none or below n
 abbrev pub ContrariansFit : ℕ → List Node → Type 0
@@ -98,15 +98,15 @@ found_each : (P : ℕ → Type 0) (p : ℕ → Bool) (x : ℕ) (xs : List ℕ) �
 found_each P p x [] h = tt
 found_each P p x (y ∷ ys) h = cond_both (λ (o : Option ℕ). Earlier P (Option.map (pair x) o)) (p y) (some y) (find p ys) h.0 (found_each P p x ys h.1)
 
-else-each : (P : ℕ → Type 0) (a b : Option Pair) → Earlier P a → Earlier P b → Earlier P (or_else a b)
-else-each P none b h k = k
-else-each P (some p) b h k = h
+else_each : (P : ℕ → Type 0) (a b : Option Pair) → Earlier P a → Earlier P b → Earlier P (or_else a b)
+else_each P none b h k = k
+else_each P (some p) b h k = h
 
 pair_each : (P : ℕ → Type 0) (rs : List Rec) (t : List Node) (xs : List ℕ) → Each P xs → Earlier P (get_contradictory_node_ids rs t xs)
 unfolding get_contradictory_node_ids
 pair_each P rs t [] h = tt
 pair_each P rs t (x ∷ xs) h =
-    else-each P (Option.map (pair x) (find (are_nodes_contradictory rs t x) (reverse xs))) (get_contradictory_node_ids rs t xs)
+    else_each P (Option.map (pair x) (find (are_nodes_contradictory rs t x) (reverse xs))) (get_contradictory_node_ids rs t xs)
     (found_each P (are_nodes_contradictory rs t x) x (reverse xs) (each_reverse P xs h.1)) (pair_each P rs t xs h.1)
 
 pairs_known : (rs : List Rec) (t : List Node) → Treed t → Each (Earlier (λ x. x < length t)) (pairs rs t (leaves t))

@@ -11,7 +11,7 @@ use borrow.Author.Tests.{eqb-true, eq-eqb, le-leb}
 use lib.ListN.{length}
 use Rattle.definition.specs.Lists.{Each, find}
 use Rattle.definition.specs.Records.{arity, Kind, Atomic, Non, And, Or, Imply, BiImply, StrictImply, Possible, Necessary, Unknown, Comment, Rec, number_of, is, made, rec_at, formula_of}
-use Rattle.definition.specs.Formula.{Form, atom, non, and, or, imply, biImply, strictImply, possible, necessary, form_by, written, form_at}
+use Rattle.definition.specs.Formula.{Form, atom, non, and, or, imply, bi_imply, strict_imply, possible, necessary, form_by, written, form_at}
 use Rattle.definition.specs.Tree.{Node, node_at, path}
 use Rattle.definition.specs.Contradiction.{atom_of, atoms_of, said, denied, opposed, are_formulas_contradictory, are_nodes_contradictory, get_contradictory_node_ids}
 use Rattle.definition.specs.Countermodel.{says_atom}
@@ -19,18 +19,18 @@ use Rattle.definition.proofs.Basics.Lists.{true_false, and_left, and_right, not_
 use Rattle.definition.proofs.Basics.Records.{same_kind}
 use Rattle.definition.proofs.Tree.Nodes.{label}
 use Rattle.definition.proofs.Basics.Forms.{WellFormed, form_at_lem}
-use Rattle.definition.proofs.Paths.Marks.{else-none}
+use Rattle.definition.proofs.Paths.Marks.{else_none}
 use Rattle.definition.proofs.Completeness.On.{Says, On}
 
 -- the number of a formula's kind
 abbrev code : Form → ℕ
-code = elim [ atom a ↦ 0 | non p ↦ 1 | and p q ↦ 2 | or p q ↦ 3 | imply p q ↦ 4 | biImply p q ↦ 5 | strictImply p q ↦ 6 | possible p ↦ 7 | necessary p ↦ 8 ]
+code = elim [ atom a ↦ 0 | non p ↦ 1 | and p q ↦ 2 | or p q ↦ 3 | imply p q ↦ 4 | bi_imply p q ↦ 5 | strict_imply p q ↦ 6 | possible p ↦ 7 | necessary p ↦ 8 ]
 
 -- a record of a kind writes a formula of that kind; one of no kind, the atom 0
 code_by_lem : (k : Kind) (a : ℕ) (p q : Form) → code (form_by k a p q) ≡ cond (leb (number_of k) 8) (number_of k) 0
 unfolding form_by number_of
 code_by_lem k a p q =
-    elim k [ Atomic ↦ refl | Non ↦ refl | And ↦ refl | Or ↦ refl | Imply ↦ refl | BiImply ↦ refl | StrictImply ↦ refl | Possible ↦ refl | Necessary ↦ refl | Unknown ↦ refl | Comment ↦ refl ]
+    elim k as (λ k. code (form_by k a p q) ≡ cond (leb (number_of k) 8) (number_of k) 0) [ Atomic ↦ refl | Non ↦ refl | And ↦ refl | Or ↦ refl | Imply ↦ refl | BiImply ↦ refl | StrictImply ↦ refl | Possible ↦ refl | Necessary ↦ refl | Unknown ↦ refl | Comment ↦ refl ]
 
 -- a record that says the atom a, and one that denies it
 abbrev Atom : Rec → ℕ → Type 0
@@ -84,7 +84,7 @@ module _ (rs : List Rec) (wf : WellFormed rs) (kinds : Each (λ (r : Rec). numbe
         ((y : ℕ) → Among y xs → are_nodes_contradictory rs t x y ≡ false) × (get_contradictory_node_ids rs t xs ≡ none)
     unfolding get_contradictory_node_ids
     apart x xs e =
-        let d = else-none x (find (are_nodes_contradictory rs t x) (reverse xs)) _ e in
+        let d = else_none x (find (are_nodes_contradictory rs t x) (reverse xs)) _ e in
         (λ y i. each_among (λ z. are_nodes_contradictory rs t x z ≡ false) y (reverse xs) (find_none _ (reverse xs) d.0) (some_reverse _ xs i), d.1)
 
     no_clash : (xs : List ℕ) → get_contradictory_node_ids rs t xs ≡ none → (a b : ℕ) → Among a xs → Among b xs → Clash a b → ⊥

@@ -3,7 +3,7 @@ use mathlib.Core.Path.{◌≡◌, sym, ap, ◌∙◌}
 use mathlib.Core.Bool.{true, false, not}
 use mathlib.Core.Logic.{inl, inr}
 use Prim.Native.Nat.{ℕ}
-use Rattle.definition.specs.Formula.{Form, atom, non, and, or, imply, biImply, strictImply, possible, necessary}
+use Rattle.definition.specs.Formula.{Form, atom, non, and, or, imply, bi_imply, strict_imply, possible, necessary}
 use Rattle.definition.specs.Models.{Model, truth}
 use Rattle.definition.specs.Rules.{as_possible, as_necessary, priest, priest_non}
 use Rattle.definition.proofs.Basics.Lists.{true_false, and_left, and_right, or_true, either, not_true_false, any_below, all_below, any_below_of, all_below_of}
@@ -57,15 +57,15 @@ module _ (M : Model) (H : ℕ → Form → Type 0) (closed : (w : ℕ) (p : Form
         λ w h. let c = closed w (non (or p q)) h in rw (f.1 w c.0, g.1 w c.1.0),
       )
   hintikka (imply p q) = implied p q (hintikka p) (hintikka q)
-  hintikka (biImply p q) =
+  hintikka (bi_imply p q) =
       let f = hintikka p in
       let g = hintikka q in (
-        λ w h. elim (closed w (biImply p q) h) [ inl a ↦ rw (f.0 w a.0, g.0 w a.1.0) | inr a ↦ rw (f.1 w a.0, g.1 w a.1.0) ],
-        λ w h. elim (closed w (non (biImply p q)) h) [ inl a ↦ rw (f.0 w a.0, g.1 w a.1.0) | inr a ↦ rw (f.1 w a.0, g.0 w a.1.0) ],
+        λ w h. elim (closed w (bi_imply p q) h) [ inl a ↦ rw (f.0 w a.0, g.0 w a.1.0) | inr a ↦ rw (f.1 w a.0, g.1 w a.1.0) ],
+        λ w h. elim (closed w (non (bi_imply p q)) h) [ inl a ↦ rw (f.0 w a.0, g.1 w a.1.0) | inr a ↦ rw (f.1 w a.0, g.0 w a.1.0) ],
       )
-  hintikka (strictImply p q) =
+  hintikka (strict_imply p q) =
       let b = box (imply p q) (implied p q (hintikka p) (hintikka q)) in
-      (λ w h. (b w).0 (closed w (strictImply p q) h), λ w h. (b w).1 (closed w (non (strictImply p q)) h))
+      (λ w h. (b w).0 (closed w (strict_imply p q) h), λ w h. (b w).1 (closed w (non (strict_imply p q)) h))
   hintikka (possible p) =
       let d = diamond p (hintikka p) in
       (λ w h. (d w).0 (closed w (possible p) h), λ w h. (d w).1 (closed w (necessary (non p)) (closed w (non (possible p)) h).0))

@@ -15,8 +15,8 @@ use Rattle.definition.proofs.Basics.Lists.{true_false, alike, and_both, and_left
 use Rattle.definition.proofs.Tree.Nodes.{blank, Label, label, Ext, ext_trans, ext_append, ext_leaf, ext_copies, ext_subtree, ext_result, length_leaf, leaf_keeps}
 use Rattle.definition.proofs.Basics.Identifiers.{IssuedBetween, issued_le, ids_numbered, flat_numbered, length_from, distinct_left, distinct_filter}
 use Rattle.definition.specs.TreeShape.{Spot, spots, placed, In, Out, Tree, Treed, Bare}
-use Rattle.definition.proofs.Tree.Shape.{in-range, in-out, leaves_bare, leaves_distinct, path_distinct}
-use Rattle.definition.proofs.Tree.Linking.{Slot, Free, Room, bare_room, link_other, link_new, link_at, parent_keeps, in-keeps, in-new, link_treed, room_new, free_keeps, chain_ready, hang_treed, leaf_other}
+use Rattle.definition.proofs.Tree.Shape.{in_range, in_out, leaves_bare, leaves_distinct, path_distinct}
+use Rattle.definition.proofs.Tree.Linking.{Slot, Free, Room, bare_room, link_other, link_new, link_at, parent_keeps, in_keeps, in_new, link_treed, room_new, free_keeps, chain_ready, hang_treed, leaf_other}
 use Rattle.definition.proofs.Run.TreeKept.{append_spots, append_out, map_new, with_copy, copy_length, copy_other, copy_treed, bare_keeps, subtree_treed}
 use Rattle.definition.proofs.Paths.Pairs.{climbing, path_below, path_root, Stem, Grown, grown_path}
 use Rattle.definition.proofs.Paths.Takers.{closed, grown_append}
@@ -36,12 +36,12 @@ link_ends : (t : List Node) (r : Treed t) (y : ℕ) (p : Place) (x : ℕ) (slot 
 link_ends t r y p x slot room free =
     let u = link t y p x in
     let treed = link_treed t r y p x slot room free in
-    let there = in-keeps t r y p x slot room free in
+    let there = in_keeps t r y p x slot room free in
     let same = climbing t r (λ z. path u z ≡ path t z) (path_root u treed ∙ sym (path_root t r))
-    (λ z i j up. rw (path_below u treed z (there z i), path_below t r z i, parent_keeps t r y p x slot room free z (in-out (spots t) z x i free.0), up)) in
+    (λ z i j up. rw (path_below u treed z (there z i), path_below t r z i, parent_keeps t r y p x slot room free z (in_out (spots t) z x i free.0), up)) in
     let has : child_at p (node_at u y).children ≡ x = ap (λ (n : Node). child_at p n.children) (link_at t r y p x slot room free) ∙ slot.1 x (node_at t y).children in (
       λ z i. (there z i, same z i),
-      rw (path_below u treed x (in-new t r y p x slot room free), link_new t r y p x slot room free, same y room.0),
+      rw (path_below u treed x (in_new t r y p x slot room free), link_new t r y p x slot room free, same y room.0),
       λ l b. elim (alike l x) [
         | inl e ↦ inl e
         | inr ne ↦
@@ -73,7 +73,7 @@ chain_ends (c ∷ cs) t y p slot r room f d =
       ends = λ l b. elim (k.ends l b) [
         | inr (h, q) ↦ inr (tt, q ∙ ap (reverse_aux cs) one)
         | inl (h, off) ↦ elim (bare l h) [
-          | inl e ↦ inr (tt, ap (path v) e ∙ (k.stays c (in-new t r y p c slot room f.0)).1 ∙ one ∙ ap (λ (es : List ℕ). reverse_aux es (c ∷ path t y)) (sym (empty cs (λ q. off q e))))
+          | inl e ↦ inr (tt, ap (path v) e ∙ (k.stays c (in_new t r y p c slot room f.0)).1 ∙ one ∙ ap (λ (es : List ℕ). reverse_aux es (c ∷ path t y)) (sym (empty cs (λ q. off q e))))
           | inr (g, ne) ↦ inl (g, λ q. ne)
         ]
       ];
@@ -99,11 +99,13 @@ pub middle_pick : (fs ds : List ℕ) → Pick (with_middle fs) ds → ds ≡ fs
 middle_pick fs ds (inr (inl e), f) = sym e
 middle_pick fs ds (inl e, f) = sym e ∙ sym (empty fs (λ h. rw (← e) at (f (inr (inl h)))))
 middle_pick fs ds (inr (inr (inl e)), f) = sym e ∙ sym (empty fs (λ h. rw (← e) at (f (inr (inl h)))))
+middle_pick fs ds (inr (inr (inr e)), f) = elim e [ ]
 
 pub sides_pick : (fs gs ds : List ℕ) → Pick (with_left_right fs gs) ds → (ds ≡ fs) ⊎ (ds ≡ gs)
 sides_pick fs gs ds (inl e, f) = inl (sym e)
 sides_pick fs gs ds (inr (inl e), f) = inl (sym e ∙ sym (empty fs (λ h. rw (← e) at (f (inl h)))))
 sides_pick fs gs ds (inr (inr (inl e)), f) = inr (sym e)
+sides_pick fs gs ds (inr (inr (inr e)), f) = elim e [ ]
 
 pick_turned : (s : Subtree) (cs : List ℕ) → Pick (turned s) cs → Pick s (reverse cs)
 unfolding turned
@@ -293,7 +295,7 @@ module _ (t₀ : List Node) (old : ℕ) where
       (each_map {Q = Free t'} (λ x h. (append_out t ns new x h.0, omega arith, λ e. omega arith)) (flat c) ids.within) ids.distinct (each_map (λ x h. omega arith) (flat c) ids.within)
       (zip_map _ _ (λ z d h l e. labels.labelled z (omega arith) ∙ ap label e ∙ ext.labelled d l) ids.within low copy.0, copy.1, copy.2)
       (copies_end ls v w s (copy_treed t y s r b.0 (omega arith))
-      (each_both {R = Bare (spots v)} (λ z g h. bare_keeps t v z (copy_other t y s z (in-range t z g.0) h) g) ls b.1 d.0) d.1
+      (each_both {R = Bare (spots v)} (λ z g h. bare_keeps t v z (copy_other t y s z (in_range t z g.0) h) g) ls b.1 d.0) d.1
       (ext_trans t₀ t v ext (ext_trans t t' v (ext_append t ns) (ext_leaf t' y c))) low (omega arith) few)
 
   -- s itself on the first of them, copies on the others
@@ -308,7 +310,7 @@ module _ (t₀ : List Node) (old : ℕ) where
       ends_more t t _ y ls s s refl (record { longer = omega arith; stems = λ z h. refl }) r b.0 f one new
       (zip_same (flat s) (each_map labels.labelled (flat s) low), refl, refl)
       (copies_end ls v w s (hang_treed t y s r b.0 f one)
-      (each_both {R = Bare (spots v)} (λ z g h. bare_keeps t v z (leaf_other t y s z h (each_map {Q = λ x. z ≢ x} (λ x a. in-out (spots t) z x g.0 a.0) (flat s) f)) g) ls b.1 d.0) d.1
+      (each_both {R = Bare (spots v)} (λ z g h. bare_keeps t v z (leaf_other t y s z h (each_map {Q = λ x. z ≢ x} (λ x a. in_out (spots t) z x g.0 a.0) (flat s) f)) g) ls b.1 d.0) d.1
       ext' low (omega (arith, length_leaf t y s)) few)
 
   -- the open leaf l of u goes on from the open leaf `from` of t

@@ -11,7 +11,7 @@ use Rattle.definition.specs.Limits.{most_records}
 use Rattle.definition.specs.Lists.{Each}
 use Rattle.definition.specs.Records.{Rec, nobody, is_nobody, decode, marks}
 use Rattle.definition.specs.Checks.{Lengths}
-use Rattle.definition.specs.Formula.{Form, atom, non, and, or, imply, biImply, strictImply, possible, necessary, form_at}
+use Rattle.definition.specs.Formula.{Form, atom, non, and, or, imply, bi_imply, strict_imply, possible, necessary, form_at}
 use Rattle.definition.specs.Setting.{Setting, setting_of}
 use Rattle.definition.specs.Models.{Model, truth}
 use Rattle.definition.specs.Graph.{empty_graph}
@@ -62,8 +62,8 @@ plain_non (non p) h = (h, tt)
 plain_non (and p q) h = ((h.0, tt), (h.1, tt))
 plain_non (or p q) h = (h.0, (h.1, tt))
 plain_non (imply p q) h = (h.0, (h.1, tt))
-plain_non (biImply p q) h = ((h.0, (h.1, tt)), (h.0, (h.1, tt)))
-plain_non (strictImply p q) h = h
+plain_non (bi_imply p q) h = ((h.0, (h.1, tt)), (h.0, (h.1, tt)))
+plain_non (strict_imply p q) h = h
 plain_non (possible p) h = absurd h
 plain_non (necessary p) h = absurd h
 
@@ -74,8 +74,8 @@ plain_priest (non p) h = plain_non p h
 plain_priest (and p q) h = (h.0, (h.1, tt))
 plain_priest (or p q) h = ((h.0, tt), (h.1, tt))
 plain_priest (imply p q) h = ((h.0, tt), (h.1, tt))
-plain_priest (biImply p q) h = ((h.0, (h.1, tt)), (h.0, (h.1, tt)))
-plain_priest (strictImply p q) h = h
+plain_priest (bi_imply p q) h = ((h.0, (h.1, tt)), (h.0, (h.1, tt)))
+plain_priest (strict_imply p q) h = h
 plain_priest (possible p) h = h
 plain_priest (necessary p) h = h
 
@@ -96,8 +96,8 @@ plain_truth M w (non p) h = ap not (plain_truth M w p h)
 plain_truth M w (and p q) h = ap₂ ◌&&◌ (plain_truth M w p h.0) (plain_truth M w q h.1)
 plain_truth M w (or p q) h = ap₂ ◌||◌ (plain_truth M w p h.0) (plain_truth M w q h.1)
 plain_truth M w (imply p q) h = ap₂ (λ a b. not a || b) (plain_truth M w p h.0) (plain_truth M w q h.1)
-plain_truth M w (biImply p q) h = ap₂ beq (plain_truth M w p h.0) (plain_truth M w q h.1)
-plain_truth M w (strictImply p q) h = absurd h
+plain_truth M w (bi_imply p q) h = ap₂ beq (plain_truth M w p h.0) (plain_truth M w q h.1)
+plain_truth M w (strict_imply p q) h = absurd h
 plain_truth M w (possible p) h = absurd h
 plain_truth M w (necessary p) h = absurd h
 

@@ -23,7 +23,7 @@ use Rattle.definition.proofs.Basics.Lists.{true_false, Some, some_map, some_amon
 use Rattle.definition.proofs.Soundness.Priest
 use Rattle.definition.proofs.Soundness.Necessities.{unvisited_each}
 use Rattle.definition.specs.TreeShape.{spots, In}
-use Rattle.definition.proofs.Tree.Shape.{in-range}
+use Rattle.definition.proofs.Tree.Shape.{in_range}
 use Rattle.definition.proofs.Paths.Spawners.{Rooted}
 use Rattle.definition.proofs.Paths.Pairs.{path_there}
 use Rattle.definition.proofs.Completeness.On.{On, OpenLeaf, occurs_some, some_occurs, occurs_cases, forked_occurs, keeps_cases, keeps_like}
@@ -114,7 +114,7 @@ module _ {F : Setting} {k : ℕ} {s : State} {p : Popped} (h : Stepping F k s p)
   low : (l : ℕ) → In (spots t) l → (b : ℕ) → Occurs s l b → b < v
   low l i b q =
       let z = some_among (path t l) (occurs_some t (path t l) b q) in
-      subst (λ (b : ℕ). b < v) z.2 (h.fit.bounded.sizes.labels z.0 (in-range t z.0 (each_among (In (spots t)) z.0 (path t l) (path_there t (tree h) l i) z.1))).world
+      subst (λ (b : ℕ). b < v) z.2 (h.fit.bounded.sizes.labels z.0 (in_range t z.0 (each_among (In (spots t)) z.0 (path t l) (path_there t (tree h) l i) z.1))).world
 
   module _ {l : ℕ} (n : Next F s p l) where
     abbrev OldOrNew : ℕ → Type 0

@@ -29,7 +29,7 @@ use Rattle.definition.proofs.Run.Counting.{known_taken}
 use Rattle.definition.proofs.Run.Fullness.{step_grows}
 use Rattle.definition.proofs.Basics.Forms.{WellFormed}
 use Rattle.definition.specs.TreeShape.{Spot, spot, spots, placed, In, Tree, Treed, Bare}
-use Rattle.definition.proofs.Tree.Shape.{in-range}
+use Rattle.definition.proofs.Tree.Shape.{in_range}
 use Rattle.definition.proofs.Tree.Linking.{Free}
 use Rattle.definition.proofs.Run.TreeKept.{New, append_spots, append_out, root_treed, map_new}
 use Rattle.definition.proofs.Call.Room.{Fit, fit_start, fit_step}
@@ -122,7 +122,7 @@ module _ (F : Setting) (rs : List Rec) where
   unfolding start begun empty_graph checked_for_contradictions
   saturated_start few =
       record {
-        settled = λ x i. checked_both (λ (z : State). Waits z.waiting x ⊎ Settled F (start F rs) x) F (begun rs) (inl (waits x (in-range (start F rs).nodes x i))) (inl (waits x (in-range (start F rs).nodes x i)));
+        settled = λ x i. checked_both (λ (z : State). Waits z.waiting x ⊎ Settled F (start F rs) x) F (begun rs) (inl (waits x (in_range (start F rs).nodes x i))) (inl (waits x (in_range (start F rs).nodes x i)));
         frame = checked_both (λ (s : State). Frame F (Settled.begun F s)) F (begun rs) (init_framed F empty_graph (inl refl)) (init_framed F empty_graph (inl refl));
         served = checked_both (λ (s : State). Each (Served F s) s.necessities) F (begun rs) tt tt;
       }

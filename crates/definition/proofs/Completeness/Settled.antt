@@ -23,7 +23,7 @@ use Rattle.definition.specs.Countermodel.{keeps_edges}
 use Rattle.definition.proofs.Basics.Lists.{either, Some, Among, each_map, each_among, each_both}
 use Rattle.definition.proofs.Tree.Nodes.{Label, label}
 use Rattle.definition.specs.TreeShape.{spots, In}
-use Rattle.definition.proofs.Tree.Shape.{in-range}
+use Rattle.definition.proofs.Tree.Shape.{in_range}
 use Rattle.definition.proofs.Completeness.On.{On, OpenLeaf, keeps_like}
 use Rattle.definition.proofs.Completeness.Frames.{Frame}
 use Rattle.definition.proofs.Completeness.Queued.{Waits, taken_or, appended_waits}
@@ -116,7 +116,7 @@ module _ {F : Setting} {k : ℕ} {s : State} {p : Popped} (h : Stepping F k s p)
   -- so then is every node that does not wait
   pub settled_next : Wider → Settled F s' p.node → AllSettled F s → AllSettled F s'
   unfolding checked_for_contradictions
-  settled_next wide taken all x i = ⊎_elim (λ e. old (ltb-true x (length t) e)) (λ e. inl (appended_waits F s p x (inr (ltb-false x (length t) e, omega (arith, in-range s'.nodes x i, after_length h))))) (either (ltb x (length t)))
+  settled_next wide taken all x i = ⊎_elim (λ e. old (ltb-true x (length t) e)) (λ e. inl (appended_waits F s p x (inr (ltb-false x (length t) e, omega (arith, in_range s'.nodes x i, after_length h))))) (either (ltb x (length t)))
     where
       old : x < length t → Waits s'.waiting x ⊎ Settled F s' x
       old low =

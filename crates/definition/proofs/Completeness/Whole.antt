@@ -192,14 +192,14 @@ complete branch flags lent skip h = let (a, room, (unproved, _)) = answered Open
 pub has_model : (F : Setting) (rs : List Rec) → HasCountermodel F rs → HasModel F (branch_of rs)
 has_model F rs (l, k) = (read_off F (final F rs) l, k.has, 0, k.world_zero, k.satisfied)
 
-in-time : (a : Answer) → InTime a → Proved a ⊎ Open a
-in-time (refusal number place) h = absurd h
-in-time (verdict v) h = ⊎_map (λ q. q) (λ q. (q, h)) (either v.proved)
+in_time : (a : Answer) → InTime a → Proved a ⊎ Open a
+in_time (refusal number place) h = absurd h
+in_time (verdict v) h = ⊎_map (λ q. q) (λ q. (q, h)) (either v.proved)
 
 pub exact : ExactInTime
 exact branch flags lent checks total timely = (
   demand_3 branch flags lent,
-  λ never. elim (in-time (answer branch flags lent) timely) [
+  λ never. elim (in_time (answer branch flags lent) timely) [
     | inl q ↦ q
     | inr q ↦ let (l, k) = complete branch flags lent checks q in absurd (never (read_off (setting_of flags) (final (setting_of flags) (decode branch)) l) k.has 0 k.world_zero (λ e. true_false (sym e ∙ total)) k.satisfied)
   ],

@@ -14,7 +14,7 @@ use Rattle.definition.specs.Tree.{Place, Root, Left, Middle, Right, Unplaced, pl
 use Rattle.definition.specs.Subtree.{takes}
 use Rattle.definition.proofs.Basics.Lists.{true_false, either, alike, or_cases, or_true, or_right, not_true_false, cond_both, each_map, each_append, filter_append, elem_each}
 use Rattle.definition.specs.TreeShape.{spots, In, Out, Child, Treed, Bare}
-use Rattle.definition.proofs.Tree.Shape.{in-out, root_in, alive, leaves_nobody, leaves_in, leaves_from, leaves_bare, kid}
+use Rattle.definition.proofs.Tree.Shape.{in_out, root_in, alive, leaves_nobody, leaves_in, leaves_from, leaves_bare, kid}
 use Rattle.definition.proofs.Tree.Linking.{bare_room}
 use Rattle.definition.proofs.Paths.Pairs.{climbing, path_below, path_root, path_there, elem_self}
 use Rattle.definition.proofs.Paths.Takers.{closed}
@@ -149,7 +149,7 @@ module _ (t : List Node) (r : Treed t) where
   -- ---- the leaves whose paths go through a node are those below it
   -- a node that has a parent is not the root
   inner : (x : ℕ) → In (spots t) (node_at t x).parent → x ≢ 0
-  inner x j e = in-out (spots t) (node_at t x).parent nobody j r.nobody_out (ap (λ (z : ℕ). (node_at t z).parent) e ∙ r.orphan)
+  inner x j e = in_out (spots t) (node_at t x).parent nobody j r.nobody_out (ap (λ (z : ℕ). (node_at t z).parent) e ∙ r.orphan)
 
   path_depth : (x : ℕ) → In (spots t) x → Each (λ z. r.depth z ≤ r.depth x) (path t x)
   path_depth =
@@ -207,14 +207,14 @@ module _ (t : List Node) (r : Treed t) where
 
       go : (p : Place) → (node_at t c).place ≡ p → kid t r a p ≡ c →
           through c (leaves_below k t (kid t r a Left)) ++ (through c (leaves_below k t (kid t r a Middle)) ++ through c (leaves_below k t (kid t r a Right))) ≡ leaves_below k t c
-      go Root at q = absurd (in-out (spots t) c nobody i r.nobody_out (sym q))
+      go Root at q = absurd (in_out (spots t) c nobody i r.nobody_out (sym q))
       go Left at q =
           ap₂ ◌++◌ (own Left q) (ap₂ ◌++◌ (other Middle (λ e. omega (arith, ap place_number (sym at ∙ e)))) (other Right (λ e. omega (arith, ap place_number (sym at ∙ e))))) ∙ append-nil (leaves_below k t c)
       go Middle at q =
           ap₂ ◌++◌ (other Left (λ e. omega (arith, ap place_number (sym at ∙ e)))) (ap₂ ◌++◌ (own Middle q) (other Right (λ e. omega (arith, ap place_number (sym at ∙ e))))) ∙ append-nil (leaves_below k t c)
       go Right at q =
           ap₂ ◌++◌ (other Left (λ e. omega (arith, ap place_number (sym at ∙ e)))) (ap₂ ◌++◌ (other Middle (λ e. omega (arith, ap place_number (sym at ∙ e)))) (own Right q))
-      go Unplaced at q = absurd (in-out (spots t) c nobody i r.nobody_out (sym q))
+      go Unplaced at q = absurd (in_out (spots t) c nobody i r.nobody_out (sym q))
 
   pub through_is : (g : ℕ) → In (spots t) g → through g (leaves t) ≡ leaves_below (length t) t g
   unfolding leaves kid
@@ -224,7 +224,7 @@ module _ (t : List Node) (r : Treed t) where
       let a = (node_at t x).parent in
       let n = length t in
       let above = r.above x i (inner x j) in
-      let has : is_leaf (node_at t a).children ≡ false = not_true_false _ (λ b. in-out (spots t) x nobody i r.nobody_out (sym above.child ∙ bare_room (node_at t x).place (node_at t a).children b)) in
+      let has : is_leaf (node_at t a).children ≡ false = not_true_false _ (λ b. in_out (spots t) x nobody i r.nobody_out (sym above.child ∙ bare_room (node_at t x).place (node_at t a).children b)) in
       let u = leaves_below n t (kid t r a Left) in
       let v = leaves_below n t (kid t r a Middle) in
       let w = leaves_below n t (kid t r a Right) in
@@ -239,7 +239,7 @@ module _ (t : List Node) (r : Treed t) where
   pub through_out : (g : ℕ) → Out (spots t) g → through g (leaves t) ≡ []
   through_out g o =
       filter_none (λ l. elem g (path t l)) (leaves t)
-      (each_map (λ l (b : Bare (spots t) l). elem_not g (path t l) (each_map (λ y j. in-out (spots t) y g j o) (path t l) (path_there t r l b.0))) (leaves t) (leaves_bare t r))
+      (each_map (λ l (b : Bare (spots t) l). elem_not g (path t l) (each_map (λ y j. in_out (spots t) y g j o) (path t l) (path_there t r l b.0))) (leaves t) (leaves_bare t r))
 
   -- ---- the leaves that take what goes below the target
   takers_are : (g : ℕ) → In (spots t) g → filter (takes t g) (leaves t) ≡ opened (length t) g
@@ -252,7 +252,7 @@ module _ (t : List Node) (r : Treed t) where
   takers_out g o =
       filter_none (takes t g) (leaves t)
       (each_map (λ l (b : Bare (spots t) l).
-      ap (λ (c : Bool). c && not (closed t l)) (elem_not g (path t l) (each_map (λ y j. in-out (spots t) y g j o) (path t l) (path_there t r l b.0)))) (leaves t) (leaves_bare t r))
+      ap (λ (c : Bool). c && not (closed t l)) (elem_not g (path t l) (each_map (λ y j. in_out (spots t) y g j o) (path t l) (path_there t r l b.0)))) (leaves t) (leaves_bare t r))
 
   -- none, where its path is closed
   pub takers_closed : (g : ℕ) → In (spots t) g → closed t g ≡ true → filter (takes t g) (leaves t) ≡ []

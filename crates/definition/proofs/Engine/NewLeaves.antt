@@ -21,7 +21,7 @@ use Rattle.definition.specs.Run.{State, appended, stops}
 use Rattle.definition.proofs.Basics.Lists.{true_false, either, alike, and_left, and_right, and_both, or_true, not_true_false, all_each, Some, some_each, some_pick, some_of_map, each_map, each_any, each_both, each_filter, each_of_map, up_from_each, among_filter, among_from, some_or, each_all, some_from_map}
 use Rattle.definition.proofs.Tree.Nodes.{blank, change_other, mark_keeps, length_marks}
 use Rattle.definition.specs.TreeShape.{Spot, spot, spots, placed, In, Tree, Treed, Bare}
-use Rattle.definition.proofs.Tree.Shape.{in-range, in-out, root_in, leaves_bare}
+use Rattle.definition.proofs.Tree.Shape.{in_range, in_out, root_in, leaves_bare}
 use Rattle.definition.proofs.Tree.Linking.{bare_room}
 use Rattle.definition.proofs.Run.Stepping.{not_stopped}
 use Rattle.definition.proofs.Run.TreeKept.{marks_keep}
@@ -150,7 +150,7 @@ module _ (rs : List Rec) (t : List Node) (r : Treed t) where
         let b = k.1.1.0 in
         let e : pair_at rs t l ≡ pair_of rs t l = rw (and_both (placed (node_at t l).place) _ b.0 b.1) in
         let low = leb-true old l k.1.1.1 in
-        let high = in-range t l b.0 in
+        let high = in_range t l b.0 in
         some_of_map (Later x) (pair_at rs t) (up_from n old)
         (some_each {R = λ z. Later x (pair_at rs t z)} (λ z (q : z ≡ l) (u : Unit {0}). rw (q, e) k.1.0) (up_from n old) (among_from n old l low (omega arith)) (each_any (λ z. Unit {0}) (λ z. tt) (up_from n old)))
 
@@ -217,7 +217,7 @@ since_all rs t r h =
       over = record { treed = r; above = λ z i l. inl (omega arith) };
       right = λ x i. inl (h x);
       new = ap (λ (ls : List ℕ). mark_all t (pairs rs t ls)) (sym (filter_all (leaves t)));
-      still = λ l. absurd (omega (arith, in-range t 0 (root_in (spots t) r), l));
+      still = λ l. absurd (omega (arith, in_range t 0 (root_in (spots t) r), l));
     }
 
 -- marks change none of this
@@ -274,7 +274,7 @@ module _ (F : Setting) (k : ℕ) (s : State) (p : Popped) (h : Fit F k s) (e : s
         go none d m = tt
         go (some a) d m =
             let there = (pair_partner s.formulas t (ready F k s h e).treed l (old_in F k s p h e few l b.0 q) a d).there in
-            ap (λ (n : Stem). n.contrarian) ((appended_grown F s p).stems a.later (in-range t a.later there)) ∙ m
+            ap (λ (n : Stem). n.contrarian) ((appended_grown F s p).stems a.later (in_range t a.later there)) ∙ m
 
     -- the check of a step marks the pairs of the new leaves
     marks_new : mark_all u (pairs (appended F s p).formulas u (leaves u)) ≡ mark_all u (pairs (appended F s p).formulas u (filter (leb (length t)) (leaves u)))
@@ -304,12 +304,12 @@ module _ (F : Setting) (k : ℕ) (s : State) (p : Popped) (h : Fit F k s) (e : s
             ⊎_elim (λ q. q)
             (λ (ne : c ≢ nobody).
             let d = r'.below l at ne in
-            let low : c < length t = omega (arith, in-range u c d.there, short) in
+            let low : c < length t = omega (arith, in_range u c d.there, short) in
             let i = old_in F k s p h e few c d.there low in
             let stem = g.stems c low in
             let up : (node_at t c).parent ≡ l = sym (ap (λ (n : Stem). n.parent) stem) ∙ d.parent in
             let place : (node_at t c).place ≡ at = sym (ap (λ (n : Stem). n.place) stem) ∙ d.place in
-            let a = (r.above c i (λ q. in-out (spots t) l nobody b.0 r.nobody_out (sym up ∙ ap (λ (z : ℕ). (node_at t z).parent) q ∙ r.orphan))).child in
+            let a = (r.above c i (λ q. in_out (spots t) l nobody b.0 r.nobody_out (sym up ∙ ap (λ (z : ℕ). (node_at t z).parent) q ∙ r.orphan))).child in
             sym a ∙ rw (up, place) (bare_room at (node_at t l).children b.1)) (alike c nobody)),
       )
 

@@ -13,7 +13,7 @@ use Rattle.definition.specs.Tree.{Node, Place, Root, Left, Middle, Right, Unplac
 use Rattle.definition.specs.Modality.{Necessity, Fork, leaves_of, is_reapplied}
 use Rattle.definition.proofs.Basics.Lists.{true_false, either, alike, or_cases, or_true, not_true_false, some_each, some_pick, any_some, elem_each, each_map, each_any, each_filter, Full, some_any, among_filter, same_both}
 use Rattle.definition.specs.TreeShape.{spots, In, Out, Treed, Bare}
-use Rattle.definition.proofs.Tree.Shape.{alive, in-out, leaves_bare}
+use Rattle.definition.proofs.Tree.Shape.{alive, in_out, leaves_bare}
 use Rattle.definition.proofs.Paths.Pairs.{climbing, path_below, path_root, path_there}
 use Rattle.definition.proofs.Paths.Takers.{leaf_by}
 use Rattle.definition.proofs.Engine.BelowTarget.{through, through_is, through_out}
@@ -130,4 +130,4 @@ module _ (t : List Node) (r : Treed t) where
     reapplied_loose o = sym (paths ∙ not_true_false _ (λ e.
         let ls = filter (λ leaf. elem n.spawner (path t leaf)) (leaves t) in
         let s = some_pick ls (some_each {R = λ l. (elem k.node (path t l) ≡ true) × (Bare (spots t) l × (elem n.spawner (path t l) ≡ true))} (λ l a b. (a, b)) ls (any_some (λ leaf. elem k.node (path t leaf)) ls e) (each_filter (Bare (spots t)) (λ leaf. elem n.spawner (path t leaf)) (leaves t) (leaves_bare t r))) in
-        in-out (spots t) k.node k.node (elem_each (In (spots t)) k.node (path t s.0) s.1.0 (path_there t r s.0 s.1.1.0.0)) o refl))
+        in_out (spots t) k.node k.node (elem_each (In (spots t)) k.node (path t s.0) s.1.0 (path_there t r s.0 s.1.1.0.0)) o refl))

@@ -20,7 +20,7 @@ use Rattle.definition.specs.Run.{State, apply, checked_for_contradictions, check
 use Rattle.definition.proofs.Basics.Lists.{true_false, either, alike, Some, some_append_left, some_append_right, some_each, some_pick, each_map, each_both, each_of_map, each_reverse, find_each, among_some, some_any, any_none}
 use Rattle.definition.proofs.Tree.Nodes.{change_other, change_same, mark_keeps, length_marks}
 use Rattle.definition.specs.TreeShape.{Spot, spot, spots, placed, In, Treed, Bare}
-use Rattle.definition.proofs.Tree.Shape.{in-range, in-out, leaves_bare, leaves_more, path_distinct}
+use Rattle.definition.proofs.Tree.Shape.{in_range, in_out, leaves_bare, leaves_more, path_distinct}
 use Rattle.definition.proofs.Tree.Linking.{bare_room}
 use Rattle.definition.proofs.Run.TreeKept.{appended_keeps, begun_treed}
 use Rattle.definition.proofs.Call.Fields.{begun_unmarked}
@@ -45,7 +45,7 @@ module _ (t : List Node) (r : Treed t) where
   unfolding leaves_below
   listed_up k l x i e h =
       let c = (node_at t (node_at t x).parent).children in
-      let ne = in-out (spots t) x nobody i r.nobody_out in
+      let ne = in_out (spots t) x nobody i r.nobody_out in
       let a = (r.above x i e).child in
       ⊎_elim (λ (q : is_leaf c ≡ true). absurd (ne (sym a ∙ bare_room (node_at t x).place c q))) (λ (q : is_leaf c ≡ false). rw q (listed_at k l x c (node_at t x).place ne a h)) (either (is_leaf c))
 
@@ -55,20 +55,20 @@ module _ (t : List Node) (r : Treed t) where
       let n = length t in
       let k = climbing t r (λ x. (k : ℕ) → n ≤ k → Some (λ z. z ≡ l) (leaves_below k t x) → (m : ℕ) × (n ≤ m) × Some (λ z. z ≡ l) (leaves_below m t 0)) (λ k q h. (k, q, h))
       (λ x i j up k q h. ⊎_elim (λ (e : x ≡ 0). (k, q, rw e at h)) (λ (e : x ≢ 0). up (suc k) (omega arith) (listed_up k l x i e h)) (alike x 0)) l b.0 (suc n) (omega arith)
-      (rw (b.1, ne_eqb l nobody (in-out (spots t) l nobody b.0 r.nobody_out)) (inl refl)) in
+      (rw (b.1, ne_eqb l nobody (in_out (spots t) l nobody b.0 r.nobody_out)) (inl refl)) in
       rw (leaves_more t r k.0 k.1) at k.2
 
   -- what holds of the listed leaves holds of every leaf
   pub leaf_each : (P : ℕ → Type 0) → Each P (leaves t) → (l : ℕ) → Bare (spots t) l → P l
   leaf_each P h l b = let k = some_pick (leaves t) (some_each {R = λ z. (z ≡ l) × P z} (λ z e p. (e, p)) (leaves t) (leaf_listed l b) h) in subst P k.1.0 k.1.1
 
-else-some : (x : ℕ) (o : Option ℕ) (rest : Option Pair) (p : Pair) → or_else (Option.map (pair x) o) rest ≡ some p → ((p.later ≡ x) × (o ≡ some p.earlier)) ⊎ (rest ≡ some p)
-else-some x none rest p e = inr e
-else-some x (some y) rest p e = let d : pair x y ≡ p = cc in inl (sym (ap (λ (q : Pair). q.later) d), ap (λ (q : Pair). some q.earlier) d)
+else_some : (x : ℕ) (o : Option ℕ) (rest : Option Pair) (p : Pair) → or_else (Option.map (pair x) o) rest ≡ some p → ((p.later ≡ x) × (o ≡ some p.earlier)) ⊎ (rest ≡ some p)
+else_some x none rest p e = inr e
+else_some x (some y) rest p e = let d : pair x y ≡ p = cc in inl (sym (ap (λ (q : Pair). q.later) d), ap (λ (q : Pair). some q.earlier) d)
 
-pub else-none : (x : ℕ) (o : Option ℕ) (rest : Option Pair) → or_else (Option.map (pair x) o) rest ≡ none → (o ≡ none) × (rest ≡ none)
-else-none x none rest e = (refl, e)
-else-none x (some y) rest e = let z : ◌≡◌ {A = ℕ} 0 1 = cc in absurd (omega arith)
+pub else_none : (x : ℕ) (o : Option ℕ) (rest : Option Pair) → or_else (Option.map (pair x) o) rest ≡ none → (o ≡ none) × (rest ≡ none)
+else_none x none rest e = (refl, e)
+else_none x (some y) rest e = let z : ◌≡◌ {A = ℕ} 0 1 = cc in absurd (omega arith)
 
 -- the pair of x: its later node is on the path, and has the earlier one for a partner
 pub record Paired (rs : List Rec) (t : List Node) (x : ℕ) (p : Pair) : Type 0 where
@@ -84,13 +84,13 @@ module _ (rs : List Rec) (t : List Node) (r : Treed t) where
       ⊎_elim
       (λ (d : (p.later ≡ x) × (partner rs t x ≡ some p.earlier)). record { there = rw d.0 i; by = rw d.0 d.1; on = rw (path_below t r x i) (inl (sym d.0)) })
       (λ d. let k = up p d in record { there = k.there; by = k.by; on = rw (path_below t r x i) (inr k.on) })
-      (else-some x (partner rs t x) _ p (sym (pair_below t r rs x i) ∙ e)))
+      (else_some x (partner rs t x) _ p (sym (pair_below t r rs x i) ∙ e)))
 
   -- where there is no pair, no node of the path has a partner
   pub no_partner : (x : ℕ) → In (spots t) x → pair_of rs t x ≡ none → Each (λ z. partner rs t z ≡ none) (path t x)
   no_partner =
       climbing t r (λ x. pair_of rs t x ≡ none → Each (λ z. partner rs t z ≡ none) (path t x)) (λ e. rw (path_root t r) ((pair_root t r rs).0, tt))
-      (λ x i j up e. let d = else-none x (partner rs t x) _ (sym (pair_below t r rs x i) ∙ e) in rw (path_below t r x i) (d.0, up d.1))
+      (λ x i j up e. let d = else_none x (partner rs t x) _ (sym (pair_below t r rs x i) ∙ e) in rw (path_below t r x i) (d.0, up d.1))
 
   partner_known : (x y : ℕ) → In (spots t) x → partner rs t x ≡ some y → y < length t
   unfolding partner earlier
@@ -199,7 +199,7 @@ module _ (rs : List Rec) (t : List Node) (r : Treed t) where
     where
       go : (o : Option Pair) → pair_of rs t l ≡ o → Exact (partner rs t) (length t) o
       go none e = tt
-      go (some p) e = let k = pair_partner rs t r l i p e in (in-range t p.later k.there, k.by)
+      go (some p) e = let k = pair_partner rs t r l i p e in (in_range t p.later k.there, k.by)
 
   pub leaves_exact : Each (λ l. Exact (partner rs t) (length t) (pair_of rs t l)) (leaves t)
   leaves_exact = each_map (λ l (b : Bare (spots t) l). pair_exact l b.0) (leaves t) (leaves_bare t r)

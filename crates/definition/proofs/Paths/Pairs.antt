@@ -25,7 +25,7 @@ use Rattle.definition.proofs.Basics.Identifiers.{IssuedBetween, ids_numbered, is
 use Rattle.definition.proofs.Basics.Forms.{WellFormed}
 use Rattle.definition.proofs.Call.Fields.{parent_number}
 use Rattle.definition.specs.TreeShape.{spots, placed, In, Treed}
-use Rattle.definition.proofs.Tree.Shape.{in-range, in-out, root_in, path_more, path_distinct}
+use Rattle.definition.proofs.Tree.Shape.{in_range, in_out, root_in, path_more, path_distinct}
 use Rattle.definition.proofs.Run.TreeKept.{between, between_keeps}
 use Rattle.definition.proofs.Call.Room.{Fit, ready}
 use Rattle.definition.specs.Shortcuts.{earlier, partner, pair_of}
@@ -52,7 +52,7 @@ module _ (t : List Node) (r : Treed t) where
   pub path_below : (x : ℕ) → In (spots t) x → path t x ≡ x ∷ path t (node_at t x).parent
   unfolding path upward
   path_below x i =
-      let e : is_nobody x ≡ false = ne_eqb x nobody (in-out (spots t) x nobody i r.nobody_out) in
+      let e : is_nobody x ≡ false = ne_eqb x nobody (in_out (spots t) x nobody i r.nobody_out) in
       sym (path_more t r (suc (length t)) x i (omega arith)) ∙ rw e
 
   pub path_root : path t 0 ≡ 0 ∷ []
@@ -259,17 +259,17 @@ appended_grown F s p = let rs = (apply F s p.node).subtrees in between_grown F s
 
 module _ (t t' : List Node) (r : Treed t) (g : Grown t t') where
   pub grown_in : (y : ℕ) → In (spots t) y → In (spots t') y
-  grown_in y i = ap (λ (n : Stem). placed n.place) (g.stems y (in-range t y i)) ∙ i
+  grown_in y i = ap (λ (n : Stem). placed n.place) (g.stems y (in_range t y i)) ∙ i
 
   pub grown_parent : (y : ℕ) → In (spots t) y → (node_at t' y).parent ≡ (node_at t y).parent
-  grown_parent y i = ap (λ (n : Stem). n.parent) (g.stems y (in-range t y i))
+  grown_parent y i = ap (λ (n : Stem). n.parent) (g.stems y (in_range t y i))
 
   -- no path of a node that was in the tree changes
   pub grown_path : (y : ℕ) → In (spots t) y → path t' y ≡ path t y
   unfolding path
   grown_path y i =
       upward_like (Number (length t)) t t'
-      (λ z n e. (ap (λ (n : Stem). n.parent) (g.stems z (⊎_elim (λ d. absurd (e d)) (λ h. h) n)), parent_number t r z)) (length t') y (inr (in-range t y i))
+      (λ z n e. (ap (λ (n : Stem). n.parent) (g.stems z (⊎_elim (λ d. absurd (e d)) (λ h. h) n)), parent_number t r z)) (length t') y (inr (in_range t y i))
       ∙ path_more t r (length t') y i g.longer
 
   -- nor any pair, where formulas are appended
@@ -279,7 +279,7 @@ module _ (t t' : List Node) (r : Treed t) (g : Grown t t') where
       let e = g.stems z h in
       let told = formula_same rs more wf (node_at t z).formula (k z h) in
       record { world = ap (λ (n : Stem). n.world) e; says = rw (ap (λ (n : Stem). n.formula) e) told.0; denies = rw (ap (λ (n : Stem). n.formula) e) told.1 } in
-      same_by rs (rs ++ more) t t' y (grown_path y i) (like y (in-range t y i)) (each_map like (path t y) (path_distinct t r y i).1)
+      same_by rs (rs ++ more) t t' y (grown_path y i) (like y (in_range t y i)) (each_map like (path t y) (path_distinct t r y i).1)
 
 -- a step changes no path, partner or pair of a node that was in the tree
 module _ (F : Setting) (k : ℕ) (s : State) (h : Fit F k s) (e : stops F s ≡ false) (y : ℕ) (i : In (spots s.nodes) y) where

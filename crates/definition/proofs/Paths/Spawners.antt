@@ -24,7 +24,7 @@ use Rattle.definition.proofs.Tree.Nodes.{mark_keeps, length_marks}
 use Rattle.definition.proofs.Run.Stepping.{checked_both, step_keeps}
 use Rattle.definition.proofs.Run.Counting.{known_taken}
 use Rattle.definition.specs.TreeShape.{Spot, spot, spots, placed, In, Treed, Bare}
-use Rattle.definition.proofs.Tree.Shape.{in-out, leaves_bare, leaves_within}
+use Rattle.definition.proofs.Tree.Shape.{in_out, leaves_bare, leaves_within}
 use Rattle.definition.proofs.Tree.Linking.{bare_room}
 use Rattle.definition.proofs.Call.Room.{Fit, ready}
 use Rattle.definition.proofs.Paths.Pairs.{climbing, path_below, path_root, elem_self, marks_same, Stem, Grown, grown_path, appended_grown}
@@ -46,8 +46,8 @@ module _ (t : List Node) (r : Treed t) where
       has_child : (l : ℕ) → In (spots t) l → In (spots t) (node_at t l).parent → is_leaf (node_at t (node_at t l).parent).children ≡ false
       has_child l i j =
           not_true_false (is_leaf (node_at t (node_at t l).parent).children) (λ b.
-          let rooted : l ≢ 0 = λ e. in-out (spots t) (node_at t l).parent nobody j r.nobody_out (ap (λ (z : ℕ). (node_at t z).parent) e ∙ r.orphan) in
-          in-out (spots t) l nobody i r.nobody_out (sym (r.above l i rooted).child ∙ bare_room (node_at t l).place (node_at t (node_at t l).parent).children b))
+          let rooted : l ≢ 0 = λ e. in_out (spots t) (node_at t l).parent nobody j r.nobody_out (ap (λ (z : ℕ). (node_at t z).parent) e ∙ r.orphan) in
+          in_out (spots t) l nobody i r.nobody_out (sym (r.above l i rooted).child ∙ bare_room (node_at t l).place (node_at t (node_at t l).parent).children b))
 
   -- a necessity as it is stored
   pub stored_spawned : (n : Necessity) → n.leaves ≡ filter (λ leaf. elem n.spawner (path t leaf)) (leaves t) → ThroughSpawner t n

@@ -21,7 +21,7 @@ use Rattle.definition.proofs.Tree.Labels.{node_after}
 use Rattle.definition.proofs.Tree.NewNodes.{apply_each}
 use Rattle.definition.proofs.Run.Fullness.{part_grows}
 use Rattle.definition.specs.TreeShape.{spots, placed, In, Treed, Bare}
-use Rattle.definition.proofs.Tree.Shape.{leaves_bare, in-range, root_in, path_distinct}
+use Rattle.definition.proofs.Tree.Shape.{leaves_bare, in_range, root_in, path_distinct}
 use Rattle.definition.proofs.Tree.Linking.{bare_room}
 use Rattle.definition.proofs.Run.TreeKept.{between, between_keeps}
 use Rattle.definition.proofs.Paths.Pairs.{climbing, path_below, Stem, stem, Grown, chain_stem, result_stem, grown_in, grown_parent, grown_path}
@@ -54,7 +54,7 @@ module _ (t t' : List Node) (r : Treed t) (g : Grown t t') where
       (λ (ne : c ≢ nobody).
       let k = r.below l p ne in
       let up = grown_parent t t' r g c k.there ∙ k.parent in
-      let at = ap (λ (n : Stem). n.place) (g.stems c (in-range t c k.there)) ∙ k.place in
+      let at = ap (λ (n : Stem). n.place) (g.stems c (in_range t c k.there)) ∙ k.place in
       let a = (r'.above c (grown_in t t' r g c k.there) (λ q. omega (arith, k.deeper, r.top, ap r.depth q))).child in
       sym a ∙ rw (up, at) (bare_room p (node_at t' l).children b)) (alike c nobody))
 
@@ -186,7 +186,7 @@ module _ (t₀ : List Node) where
   hung_none : Hung t₀
   hung_none =
       record {
-        below = λ z i n. absurd (omega (arith, n, in-range t₀ z i));
+        below = λ z i n. absurd (omega (arith, n, in_range t₀ z i));
         plain = λ z n. ap (λ (n : Node). n.contrarian) (get_or-eq_default t₀ blank {n = z} n);
       }
 
@@ -217,7 +217,7 @@ pub record NewPath (t₀ t : List Node) (z : ℕ) : Type 0 where
 
 pub new_path : (t₀ t : List Node) → Treed t₀ → Treed t → Grown t₀ t → Hung t₀ t → (z : ℕ) → In (spots t) z → length t₀ ≤ z → NewPath t₀ t z
 new_path t₀ t r₀ r g h =
-    climbing t r (λ z. length t₀ ≤ z → NewPath t₀ t z) (λ l. absurd (omega (arith, l, in-range t₀ 0 (root_in (spots t₀) r₀))))
+    climbing t r (λ z. length t₀ ≤ z → NewPath t₀ t z) (λ l. absurd (omega (arith, l, in_range t₀ 0 (root_in (spots t₀) r₀))))
     (λ z i j up l.
     let on : (ys : List ℕ) → path t (node_at t z).parent ≡ ys → path t z ≡ z ∷ ys = λ ys e. path_below t r z i ∙ ap (λ (ws : List ℕ). z ∷ ws) e in
     ⊎_elim (λ k. let n = up k in record { new = z ∷ n.new; leaf = n.leaf; taker = n.taker; high = (l, n.high); is = on _ n.is })

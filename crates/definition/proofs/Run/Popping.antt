@@ -75,16 +75,16 @@ first_none p x xs before e = go (p x) refl e
     go true q d = let z : ◌≡◌ {A = ℕ} 0 1 = cc in absurd (omega arith)
     go false q d = q
 
-else-none : (a b : Option Popped) → or_else a b ≡ none → (a ≡ none) × (b ≡ none)
-else-none none b e = (refl, e)
-else-none (some p) b e = let z : ◌≡◌ {A = ℕ} 0 1 = cc in absurd (omega arith)
+else_none : (a b : Option Popped) → or_else a b ≡ none → (a ≡ none) × (b ≡ none)
+else_none none b e = (refl, e)
+else_none (some p) b e = let z : ◌≡◌ {A = ℕ} 0 1 = cc in absurd (omega arith)
 
 -- a node that is not taken is of none of the classes
 class_none : (F : Setting) (rs : List Rec) (t : List Node) (x : ℕ) (xs cs : List ℕ) → pop_class F rs t (x ∷ xs) cs ≡ none → Each (λ c. get_node_priority F rs t x ≢ c) cs
 unfolding pop_class
 class_none F rs t x xs [] e = tt
 class_none F rs t x xs (c ∷ cs) e =
-    let (here, later) = else-none _ _ e in
+    let (here, later) = else_none _ _ e in
     (eqb-false (get_node_priority F rs t x) c (first_none (λ y. eqb (get_node_priority F rs t y) c) x xs [] here), class_none F rs t x xs cs later)
 
 -- where a node waits, one is taken

@@ -23,7 +23,7 @@ use Rattle.definition.proofs.Basics.Identifiers.{rising_distinct, IssuedBetween,
 use Rattle.definition.proofs.Run.Stepping.{checked_both, step_keeps, run_keeps}
 use Rattle.definition.proofs.Tree.NewNodes.{here_each, rule_each, apply_each}
 use Rattle.definition.specs.TreeShape.{Spot, spot, spots, nowhere, placed, In, Out, Child, Parent, Tree, Treed, Bare, TreedThroughout}
-use Rattle.definition.proofs.Tree.Shape.{in-range, in-out, leaves_bare, leaves_distinct, Unbounded, treed_unbounded}
+use Rattle.definition.proofs.Tree.Shape.{in_range, in_out, leaves_bare, leaves_distinct, Unbounded, treed_unbounded}
 use Rattle.definition.proofs.Tree.Linking.{Free, leaf_other, bare_room, hang_treed}
 
 -- t' has no fewer nodes than t, and is a tree if t is one, as long as its identifiers stay below nobody
@@ -100,7 +100,7 @@ copies_treed (y ∷ ls) t q s r b d few =
     let u = with_copy t y s in
     let w = push_subtree q (numbered (length t) s) in
     let more = copies_treed ls u w s (copy_treed t y s r b.0 (omega (arith, (ext_copies ls u w s).longer, few)))
-    (each_both {R = Bare (spots u)} (λ l (c : Bare (spots t) l) (e : l ≢ y). bare_keeps t u l (copy_other t y s l (in-range t l c.0) e) c) ls b.1 d.0) d.1 few in
+    (each_both {R = Bare (spots u)} (λ l (c : Bare (spots t) l) (e : l ≢ y). bare_keeps t u l (copy_other t y s l (in_range t l c.0) e) c) ls b.1 d.0) d.1 few in
     (more.0, λ z h k. more.1 z (omega (arith, h, copy_length t y s)) k.1 ∙ copy_other t y s z h k.0)
 
 on_treed : (ls : List ℕ) (t : List Node) (q : List ℕ) (s : Subtree) → Treed t → Each (Bare (spots t)) ls → Distinct ls → Each (Free t) (flat s) → Distinct (flat s) →
@@ -111,7 +111,7 @@ on_treed [] t q s r b d f k few = (r, λ z h m w. refl)
 on_treed (y ∷ ls) t q s r b d f k few =
     let u = append_subtree_on_leaf t y s in
     let stay : (l : ℕ) → Bare (spots t) l → l ≢ y → Bare (spots u) l = λ l c e. bare_keeps t u l
-    (leaf_other t y s l e (each_map {Q = λ x. l ≢ x} (λ x (g : Free t x). in-out (spots t) l x c.0 g.0) (flat s) f)) c in
+    (leaf_other t y s l e (each_map {Q = λ x. l ≢ x} (λ x (g : Free t x). in_out (spots t) l x c.0 g.0) (flat s) f)) c in
     let more = copies_treed ls u (push_subtree q s) s (hang_treed t y s r b.0 f k) (each_both stay ls b.1 d.0) d.1 few in
     (more.0, λ z h m w. more.1 z (omega (arith, h, length_leaf t y s)) m.1 ∙ leaf_other t y s z m.0 w)
 
@@ -125,7 +125,7 @@ subtree_treed t q target s r f d few =
     let p = takes t target in
     let b = leaves_bare t r in
     let all = on_treed (filter p ls) t q s r (filter_keeps (Bare (spots t)) p ls b) (distinct_filter p ls (leaves_distinct t r)) f d few in
-    (all.0, λ z o h. all.1 z h (filter_keeps (λ l. z ≢ l) p ls (each_map {Q = λ l. z ≢ l} (λ l (c : Bare (spots t) l) (e : z ≡ l). in-out (spots t) l z c.0 o (sym e)) ls b)))
+    (all.0, λ z o h. all.1 z h (filter_keeps (λ l. z ≢ l) p ls (each_map {Q = λ l. z ≢ l} (λ l (c : Bare (spots t) l) (e : z ≡ l). in_out (spots t) l z c.0 o (sym e)) ls b)))
 
 -- subtrees one after the other, whose identifiers are those of free nodes
 result_treed : (rs : List Targeted) (t : List Node) (q : List ℕ) (lo hi : ℕ) → Treed t → IssuedBetween lo hi rs → ((z : ℕ) → lo ≤ z → z < hi → Out (spots t) z) → hi ≤ length t →

@@ -1,6 +1,6 @@
 -- A set of nodes that holds the root, each node's parent, and a child of each node that has one: what links do to it.
-use mathlib.Core.Path.{◌≡◌, refl, sym, ap, ◌∙◌}
-use mathlib.Core.Bool.{Bool, true, false, ◌||◌, or_true}
+use mathlib.Core.Path.{◌≡◌, refl, sym, ap, ◌∙◌, subst}
+use mathlib.Core.Bool.{Bool, true, false, ◌||◌, or-true}
 use mathlib.Core.List.{List, [], ◌∷◌, ◌++◌, reverse}
 use mathlib.Core.Logic.{◌⊎◌, inl, inr, ⊎_elim, ⊎_map, ◌≢◌}
 use Prim.Native.Nat.{ℕ, zero, suc, ◌<◌, ◌≤◌}
@@ -127,7 +127,7 @@ adds S [] = S
 adds S (c ∷ cs) = adds (plus S c) cs
 
 plus_old : (S : ℕ → Bool) (c x : ℕ) → S x ≡ true → plus S c x ≡ true
-plus_old S c x h = rw h (or_true (eqb x c))
+plus_old S c x h = rw h (or-true (eqb x c))
 
 plus_new : (S : ℕ → Bool) (c : ℕ) → plus S c c ≡ true
 plus_new S c = rw (eq-eqb c c refl)
@@ -176,12 +176,16 @@ link_in S t y p x slot r hy hx e =
           (λ u a b c. rw (link_other t y p x u c, change_other t x u f a) (⊎_map (λ q. q) (child_plus S x (node_at t u).children) (r.down u b c))) v g k) z h;
     }
 
+-- numbers that are new to a sequence are new to any other of its length
+new_as : {n m : ℕ} (cs : List ℕ) → m ≡ n → Each (New n) cs → Each (New m) cs
+new_as cs e h = subst (λ (k : ℕ). Each (New k) cs) (sym e) h
+
 pub chain_in : (S : ℕ → Bool) (t : List Node) (y : ℕ) (p : Place) (c : ℕ) (cs : List ℕ) → Slot p → Runs t S y → S y ≡ true → Each (New (length t)) (c ∷ cs) →
     Whole (link_chain t y p (c ∷ cs)) (adds S (c ∷ cs))
 unfolding link_chain
 chain_in S t y p c [] slot r hy h = link_in S t y p c slot r hy h.0
 chain_in S t y p c (d ∷ ds) slot r hy h =
-    chain_in (plus S c) (link t y p c) c Middle d ds slot_middle (link_in S t y p c slot r hy h.0 c) (plus_new S c) (rw (length_link t y p c) h.1)
+    chain_in (plus S c) (link t y p c) c Middle d ds slot_middle (link_in S t y p c slot r hy h.0 c) (plus_new S c) (new_as (d ∷ ds) (length_link t y p c) h.1)
 
 apart : (S : ℕ → Bool) (x z : ℕ) → S z ≡ true → S x ≡ false → z ≢ x
 apart S x z h k e = true_false (sym h ∙ ap S e ∙ k)
@@ -273,12 +277,12 @@ hang_in S t y s cs (left_chain c ds m r) w hy n o d =
 hang_in S t y s cs (middle_chain l c ds r) w hy n o d =
     let off = parts (Out S) s o in
     taken S (link_chain t y Left l) y slot_middle c ds Right r Right [] (λ x a. refl) (λ x a. refl) (chain_out S t y Left y l (w y) (inl refl) off.0) hy
-    (rw (length_chain t y Left l) (parts (New (length t)) s n).1) off.1 (each_both (λ x a b. adds_other S cs x b ∙ a) r off.2 (distinct_apart cs r (distinct_right l (cs ++ r) d))) tt
+    (new_as (c ∷ ds) (length_chain t y Left l) (parts (New (length t)) s n).1) off.1 (each_both (λ x a b. adds_other S cs x b ∙ a) r off.2 (distinct_apart cs r (distinct_right l (cs ++ r) d))) tt
 hang_in S t y s cs (right_chain l m c ds) w hy n o d =
     let off = parts (Out S) s o in
     let u = link_chain t y Left l in
     let one = chain_out S u y Middle y m (chain_out S t y Left y l (w y) (inl refl) off.0) (inl refl) off.1 in
-    chain_in S _ y Right c ds slot_right one hy (rw (length_chain u y Middle m, length_chain t y Left l) (parts (New (length t)) s n).2)
+    chain_in S _ y Right c ds slot_right one hy (new_as (c ∷ ds) (length_chain u y Middle m ∙ length_chain t y Left l) (parts (New (length t)) s n).2)
 
 -- a subtree out of the set, below a node that is not in it
 pub hang_out : (S : ℕ → Bool) (t : List Node) (y : ℕ) (s : Subtree) → Whole t S → S y ≡ false → Each (Out S) (flat s) → Whole (append_subtree_on_leaf t y s) S

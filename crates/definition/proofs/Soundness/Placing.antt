@@ -1,7 +1,7 @@
 -- Placing keeps an open set, and takes into it a chain of each subtree that a leaf of the set takes.
 use mathlib.Core.Path.{◌≡◌, refl, sym, ap, ◌∙◌, subst}
 use mathlib.Core.Bool.{Bool, true, false}
-use mathlib.Core.List.{List, [], ◌∷◌, ◌++◌, map, map_append, append_assoc, append-nil}
+use mathlib.Core.List.{List, [], ◌∷◌, ◌++◌, map, map-append, append_assoc, append-nil}
 use mathlib.Core.Logic.{◌⊎◌, inl, inr, ⊎_elim, ⊎_map}
 use Prim.Native.Nat.{ℕ, suc, ◌<◌, ◌≤◌, ◌+◌}
 use native.Mathlib.Omega.{arith}
@@ -39,7 +39,7 @@ module _ (Ok : ℕ → ℕ → Type 0) where
       Each (Fine (t ++ map f (bs ++ (cs ++ ds)))) (up_from (length cs) n)
   made_fine f t bs cs ds n e h =
       let fine = amid_fine (map f cs) (map f ds) (t ++ map f bs) (each_of_map OkNode f cs h) in
-      rw (map_append f bs (cs ++ ds), map_append f cs ds, ← e) (rw (append_assoc t (map f bs) (map f cs ++ map f ds), length-append t (map f bs), length-map bs f, length-map cs f) at fine)
+      rw (map-append f bs (cs ++ ds), map-append f cs ds, ← e) (rw (append_assoc t (map f bs) (map f cs ++ map f ds), length-append t (map f bs), length-map bs f, length-map cs f) at fine)
 
   -- nodes made for the numbers of a subtree have a side where these have one
   pub made_side : (f : ℕ → Node) (t : List Node) (s : Subtree) → Side (λ c. OkNode (f c)) s → Side (Fine (t ++ map f (flat s))) (numbered (length t) s)
@@ -47,9 +47,10 @@ module _ (Ok : ℕ → ℕ → Type 0) where
   made_side f t s ([], no_chain, h) = ([], no_chain, tt)
   made_side f t s (cs, left_chain c ds m r, h) = (_, left_chain _ _ _ _, made_fine f t [] cs (m ++ r) (length t) (omega arith) h)
   made_side f t s (cs, middle_chain l c ds r, h) = (_, middle_chain _ _ _ _, made_fine f t l cs r (length t + length l) refl h)
-  made_side f t s (cs, right_chain l m c ds, h) =
-      let fine = made_fine f t (l ++ m) cs [] (length t + length l + length m) (omega (arith, length-append l m)) h in
-      (_, right_chain _ _ _ _, rw (append_assoc l m (cs ++ []), append-nil cs) at fine)
+  made_side f t s (_, right_chain l m c ds, h) =
+      let fine = made_fine f t (l ++ m) (c ∷ ds) [] (length t + length l + length m) (omega (arith, length-append l m)) h in
+      let e : (l ++ m) ++ ((c ∷ ds) ++ []) ≡ l ++ (m ++ (c ∷ ds)) = append_assoc l m ((c ∷ ds) ++ []) ∙ ap (λ (k : List ℕ). l ++ (m ++ k)) (append-nil (c ∷ ds)) in
+      (_, right_chain _ _ _ _, subst (λ (xs : List ℕ). Each (Fine (t ++ map f xs)) (up_from (length (c ∷ ds)) (length t + length l + length m))) e fine)
 
   -- a copy of a subtree has a side where the subtree has one
   copy_side : (t : List Node) (s : Subtree) → Side (Fine t) s → Side (Fine (t ++ map (copied t) (flat s))) (numbered (length t) s)

@@ -11,7 +11,7 @@ use lib.ListN.{length, take, length-append, get_or-append, get_or-eq_default}
 use lib.Seq.{get_or-append-add}
 use Rattle.definition.specs.Lists.{Each, all, below}
 use Rattle.definition.specs.Records.{nobody, is_nobody, Kind, Atomic, Non, And, Or, Imply, BiImply, StrictImply, Possible, Necessary, Unknown, Comment, Rec, number_of, arity, links, made, rec_at, formula_of}
-use Rattle.definition.specs.Formula.{Form, atom, non, and, or, imply, biImply, strictImply, possible, necessary, form_by, written, form_at}
+use Rattle.definition.specs.Formula.{Form, atom, non, and, or, imply, bi_imply, strict_imply, possible, necessary, form_by, written, form_at}
 use Rattle.definition.specs.Models.{Model, truth}
 use Rattle.definition.specs.Rules.{Rule, nothing, down, split, as_possible, as_necessary, priest_non, priest, Expansion, makes, non_expansion, expansion_by, expansion, written_rule}
 use Rattle.definition.proofs.Basics.Lists.{and_left, and_right, and_both, or_cases, not_true, either, cond_both, each_map, all_each, any_below, all_below, any_false_all, all_false_any, Full}
@@ -209,9 +209,9 @@ module _ (M : Model) (w : ℕ) where
   non_test (and p q) e = taut (λ a b. not (a && b)) (λ a b. (not a && true) || (not b && true)) refl (truth M p w) (truth M q w) e
   non_test (or p q) e = taut (λ a b. not (a || b)) (λ a b. not a && (not b && true)) refl (truth M p w) (truth M q w) e
   non_test (imply p q) e = taut (λ a b. not (not a || b)) (λ a b. a && (not b && true)) refl (truth M p w) (truth M q w) e
-  non_test (biImply p q) e =
+  non_test (bi_imply p q) e =
       taut (λ a b. not (beq a b)) (λ a b. (a && (not b && true)) || (not a && (b && true))) refl (truth M p w) (truth M q w) e
-  non_test (strictImply p q) e = all_false_any _ _ (λ v. some_not (M.reach w v) (truth M (imply p q) v)) (below M.size) (not_true _ e)
+  non_test (strict_imply p q) e = all_false_any _ _ (λ v. some_not (M.reach w v) (truth M (imply p q) v)) (below M.size) (not_true _ e)
   non_test (possible p) e = and_both _ true (any_false_all _ _ (λ v. each_not (M.reach w v) (truth M p v)) (below M.size) (not_true _ e)) refl
   non_test (necessary p) e = and_both _ true (all_false_any _ _ (λ v. some_not (M.reach w v) (truth M p v)) (below M.size) (not_true _ e)) refl
 
@@ -222,8 +222,8 @@ module _ (M : Model) (w : ℕ) where
   test (and p q) e = taut (λ a b. a && b) (λ a b. a && (b && true)) refl (truth M p w) (truth M q w) e
   test (or p q) e = taut (λ a b. a || b) (λ a b. (a && true) || (b && true)) refl (truth M p w) (truth M q w) e
   test (imply p q) e = taut (λ a b. not a || b) (λ a b. (not a && true) || (b && true)) refl (truth M p w) (truth M q w) e
-  test (biImply p q) e = taut beq (λ a b. (a && (b && true)) || (not a && (not b && true))) refl (truth M p w) (truth M q w) e
-  test (strictImply p q) e = e
+  test (bi_imply p q) e = taut beq (λ a b. (a && (b && true)) || (not a && (not b && true))) refl (truth M p w) (truth M q w) e
+  test (strict_imply p q) e = e
   test (possible p) e = e
   test (necessary p) e = e
 

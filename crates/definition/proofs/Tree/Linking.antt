@@ -15,7 +15,7 @@ use Rattle.definition.specs.Subtree.{Subtree, flat, append_subtree_on_leaf}
 use Rattle.definition.proofs.Basics.Lists.{alike, and_left, and_right, each_map, each_both, each_left, each_right}
 use Rattle.definition.proofs.Tree.Nodes.{change_other, change_same, change_keeps, length_change, length_link}
 use Rattle.definition.specs.TreeShape.{Spot, spot, spots, placed, In, Out, Child, Parent, Treed, Bare}
-use Rattle.definition.proofs.Tree.Shape.{in-range, in-out, root_in}
+use Rattle.definition.proofs.Tree.Shape.{in_range, in_out, root_in}
 
 -- a place where a child can be
 abbrev pub Slot : Place → Type 0
@@ -72,7 +72,7 @@ module _ (t : List Node) (r : Treed t) (y : ℕ) (p : Place) (x : ℕ) (slot : S
   u = link t y p x
 
   differ : (z : ℕ) → In (spots t) z → z ≢ x
-  differ z i = in-out (spots t) z x i free.0
+  differ z i = in_out (spots t) z x i free.0
 
   pub link_new : node_at u x ≡ placed_below y p (node_at t x)
   unfolding link
@@ -81,7 +81,7 @@ module _ (t : List Node) (r : Treed t) (y : ℕ) (p : Place) (x : ℕ) (slot : S
   pub link_at : node_at u y ≡ with_child p x (node_at t y)
   unfolding link
   link_at =
-      change_same (change t x (placed_below y p)) y (with_child p x) (rw length_change (in-range t y room.0)) ∙ ap (with_child p x) (change_other t x y (placed_below y p) (differ y room.0))
+      change_same (change t x (placed_below y p)) y (with_child p x) (rw length_change (in_range t y room.0)) ∙ ap (with_child p x) (change_other t x y (placed_below y p) (differ y room.0))
 
   keeps : {A : Type 0} (f : Node → A) → ((n : Node) → f (with_child p x n) ≡ f n) → (z : ℕ) → z ≢ x → f (node_at u z) ≡ f (node_at t z)
   unfolding link
@@ -93,11 +93,11 @@ module _ (t : List Node) (r : Treed t) (y : ℕ) (p : Place) (x : ℕ) (slot : S
   pub parent_keeps : (z : ℕ) → z ≢ x → (node_at u z).parent ≡ (node_at t z).parent
   parent_keeps = keeps (λ (n : Node). n.parent) (λ n. refl)
 
-  pub in-keeps : (z : ℕ) → In (spots t) z → In (spots u) z
-  in-keeps z i = ap placed (place_keeps z (differ z i)) ∙ i
+  pub in_keeps : (z : ℕ) → In (spots t) z → In (spots u) z
+  in_keeps z i = ap placed (place_keeps z (differ z i)) ∙ i
 
-  pub in-new : In (spots u) x
-  in-new = ap (λ (n : Node). placed n.place) link_new ∙ slot.0
+  pub in_new : In (spots u) x
+  in_new = ap (λ (n : Node). placed n.place) link_new ∙ slot.0
 
   kids_keep : (z : ℕ) (q : Place) → (child_at q (node_at u z).children ≡ child_at q (node_at t z).children) ⊎ ((z ≡ y) × (q ≡ p) × (child_at q (node_at u z).children ≡ x))
   kids_keep z q =
@@ -125,24 +125,24 @@ module _ (t : List Node) (r : Treed t) (y : ℕ) (p : Place) (x : ℕ) (slot : S
       let old = r.below z q (λ d. k (e ∙ d)) in
       let a = differ c old.there in
       let b : z ≢ x = λ d. k (e ∙ rw d (ap (λ (s : Spot). child_at q s.children) (r.loose x free.0) ∙ bare_room q childless refl)) in
-      rw e (record { there = in-keeps c old.there; parent = parent_keeps c a ∙ old.parent; place = place_keeps c a ∙ old.place; deeper = omega (arith, depth_old c a, depth_old z b, old.deeper) }))
+      rw e (record { there = in_keeps c old.there; parent = parent_keeps c a ∙ old.parent; place = place_keeps c a ∙ old.place; deeper = omega (arith, depth_old c a, depth_old z b, old.deeper) }))
       (λ (e : (z ≡ y) × (q ≡ p) × (child_at q (node_at u z).children ≡ x)).
-      rw e.2 (record { there = in-new; parent = ap (λ (n : Node). n.parent) link_new ∙ sym e.0; place = ap (λ (n : Node). n.place) link_new ∙ sym e.1; deeper = rw e.0 depth_new }))
+      rw e.2 (record { there = in_new; parent = ap (λ (n : Node). n.parent) link_new ∙ sym e.0; place = ap (λ (n : Node). n.place) link_new ∙ sym e.1; deeper = rw e.0 depth_new }))
       (kids_keep z q)
 
   link_above : (z : ℕ) → In (spots u) z → z ≢ 0 → Parent (spots u) depth' z
   link_above z i k =
       ⊎_elim (λ (e : z ≡ x).
       rw e (parent_by (spots u) depth' x y p (ap (λ (n : Node). n.parent) link_new) (ap (λ (n : Node). n.place) link_new)
-      (in-keeps y room.0) (ap (λ (n : Node). child_at p n.children) link_at ∙ slot.1 x (node_at t y).children) depth_new))
+      (in_keeps y room.0) (ap (λ (n : Node). child_at p n.children) link_at ∙ slot.1 x (node_at t y).children) depth_new))
       (λ (e : z ≢ x).
       let j : In (spots t) z = sym (ap placed (place_keeps z e)) ∙ i in
       let a = r.above z j k in
       let w = (node_at t z).parent in
       let q = (node_at t z).place in
-      parent_by (spots u) depth' z w q (parent_keeps z e) (place_keeps z e) (in-keeps w a.there)
+      parent_by (spots u) depth' z w q (parent_keeps z e) (place_keeps z e) (in_keeps w a.there)
       (⊎_elim (λ d. d ∙ a.child) (λ (d : (w ≡ y) × (q ≡ p) × (child_at q (node_at u w).children ≡ x)).
-      absurd (in-out (spots t) z nobody j r.nobody_out (sym a.child ∙ rw (d.0, d.1) room.1))) (kids_keep w q))
+      absurd (in_out (spots t) z nobody j r.nobody_out (sym a.child ∙ rw (d.0, d.1) room.1))) (kids_keep w q))
       (omega (arith, a.deeper, depth_old z e, depth_old w (differ w a.there)))) (alike z x)
 
   pub link_treed : Treed u
@@ -156,18 +156,18 @@ module _ (t : List Node) (r : Treed t) (y : ℕ) (p : Place) (x : ℕ) (slot : S
         above = link_above;
         below = link_below;
         loose = λ z o.
-            let a : z ≢ y = λ e. in-out (spots u) y z (in-keeps y room.0) o (sym e) in
-            let k = ap spot (link_other t y p x z a (λ e. in-out (spots u) x z in-new o (sym e))) in
+            let a : z ≢ y = λ e. in_out (spots u) y z (in_keeps y room.0) o (sym e) in
+            let k = ap spot (link_other t y p x z a (λ e. in_out (spots u) x z in_new o (sym e))) in
             k ∙ r.loose z (sym (ap (λ (s : Spot). placed s.place) k) ∙ o);
         nobody_out = ap placed (place_keeps nobody (λ e. free.2 (sym e))) ∙ r.nobody_out;
       }
 
   room_keeps : (z : ℕ) (q : Place) → (z ≡ y → q ≢ p) → Room t z q → Room u z q
-  room_keeps z q e k = (in-keeps z k.0, ⊎_elim (λ d. d ∙ k.1) (λ d. absurd (e d.0 d.1)) (kids_keep z q))
+  room_keeps z q e k = (in_keeps z k.0, ⊎_elim (λ d. d ∙ k.1) (λ d. absurd (e d.0 d.1)) (kids_keep z q))
 
   pub room_new : (q : Place) → Room u x q
   unfolding is_leaf
-  room_new q = (in-new, ap (λ (n : Node). child_at q n.children) link_new ∙ bare_room q childless refl)
+  room_new q = (in_new, ap (λ (n : Node). child_at q n.children) link_new ∙ bare_room q childless refl)
 
   pub free_keeps : (z : ℕ) → Free t z → z ≢ x → Free u z
   free_keeps z k e = (ap placed (place_keeps z e) ∙ k.0, omega (arith, k.1, length_link t y p x), k.2)
@@ -184,7 +184,7 @@ chain_ready [] ds t y p leaf ps slot room k r = r
 chain_ready (c ∷ cs) ds t y p leaf ps slot room k r =
     let f = r.2.0 in
     chain_ready cs ds (link t y p c) c Middle leaf ps (refl, λ x d. refl) (room_new t r.0 y p c slot room f Middle)
-    (each_map {Q = λ q. leaf ≡ c → q ≢ Middle} (λ q (h : Room t leaf q) e. absurd (in-out (spots t) leaf c h.0 f.0 e)) ps r.1) (
+    (each_map {Q = λ q. leaf ≡ c → q ≢ Middle} (λ q (h : Room t leaf q) e. absurd (in_out (spots t) leaf c h.0 f.0 e)) ps r.1) (
       link_treed t r.0 y p c slot room f,
       each_both (room_keeps t r.0 y p c slot room f leaf) ps k r.1,
       each_both (free_keeps t r.0 y p c slot room f) (cs ++ ds) r.2.1 r.3.0,

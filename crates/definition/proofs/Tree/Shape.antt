@@ -16,16 +16,16 @@ use Rattle.definition.proofs.Tree.Nodes.{blank}
 use Rattle.definition.proofs.Basics.Identifiers.{Apart, distinct_append, apart_by, pigeonhole}
 use Rattle.definition.specs.TreeShape.{Spot, spots, placed, In, Out, Child, Tree, Bare, Treed}
 
-pub in-range : (t : List Node) (x : ℕ) → In (spots t) x → x < length t
+pub in_range : (t : List Node) (x : ℕ) → In (spots t) x → x < length t
 unfolding placed
-in-range t x i =
+in_range t x i =
     ⊎_elim (ltb-true x (length t))
     (λ (q : ltb x (length t) ≡ false). true_false (sym i ∙ ap (λ (n : Node). placed n.place) (get_or-eq_default t blank {n = x} (ltb-false x (length t) q))))
     (either (ltb x (length t)))
 
 -- a node that is in the tree is none that is not
-pub in-out : (g : ℕ → Spot) (x y : ℕ) → In g x → Out g y → x ≢ y
-in-out g x y i o e = true_false (sym i ∙ ap (λ (z : ℕ). placed (g z).place) e ∙ o)
+pub in_out : (g : ℕ → Spot) (x y : ℕ) → In g x → Out g y → x ≢ y
+in_out g x y i o e = true_false (sym i ∙ ap (λ (z : ℕ). placed (g z).place) e ∙ o)
 
 pub root_in : (g : ℕ → Spot) → Tree g → In g 0
 unfolding placed
@@ -39,7 +39,7 @@ parent_in g r x =
 
 module _ (t : List Node) (r : Treed t) where
   pub alive : (x : ℕ) → In (spots t) x → is_nobody x ≡ false
-  alive x i = ne_eqb x nobody (in-out (spots t) x nobody i r.nobody_out)
+  alive x i = ne_eqb x nobody (in_out (spots t) x nobody i r.nobody_out)
 
   upward_nobody : (k : ℕ) → upward k t nobody ≡ []
   unfolding upward
@@ -56,13 +56,13 @@ module _ (t : List Node) (r : Treed t) where
       (ys : List ℕ) × Distinct ys × Each (λ z. (z < length t) × (r.depth z ≤ n)) ys × (length ys ≡ suc n) × ((k : ℕ) → n < k → upward k t x ≡ ys)
   climb zero x i e =
       let top : (node_at t x).parent ≡ nobody = ⊎_elim (λ (q : x ≡ 0). rw q r.orphan) (λ (q : x ≢ 0). absurd (omega (arith, e, (r.above x i q).deeper))) (alike x 0) in
-      (x ∷ [], (tt, tt), ((in-range t x i, omega (arith, e)), tt), refl, λ k l. upward_in k x i l ∙ rw (top, upward_nobody (k - 1)))
+      (x ∷ [], (tt, tt), ((in_range t x i, omega (arith, e)), tt), refl, λ k l. upward_in k x i l ∙ rw (top, upward_nobody (k - 1)))
   climb (suc n) x i e =
       let a = r.above x i (λ q. omega (arith, e, r.top, ap r.depth q)) in
       let c = climb n (node_at t x).parent a.there (omega (arith, e, a.deeper)) in (
         x ∷ c.0,
         (each_map {Q = λ z. z ≢ x} (λ z (h : (z < length t) × (r.depth z ≤ n)) (q : z ≡ x). omega (arith, h.1, e, ap r.depth q)) c.0 c.2, c.1),
-        ((in-range t x i, omega (arith, e)), each_map (λ z (h : (z < length t) × (r.depth z ≤ n)). (h.0, omega (arith, h.1))) c.0 c.2),
+        ((in_range t x i, omega (arith, e)), each_map (λ z (h : (z < length t) × (r.depth z ≤ n)). (h.0, omega (arith, h.1))) c.0 c.2),
         ap suc c.3,
         λ k l. upward_in k x i (omega arith) ∙ ap (λ (ys : List ℕ). x ∷ ys) (c.4 (k - 1) (omega arith)),
       )
@@ -106,7 +106,7 @@ module _ (t : List Node) (r : Treed t) where
 
   found_kid : (x : ℕ) (p : Place) (l : ℕ) → Found (kid x p) l → Child (spots t) r.depth x p (kid x p)
   unfolding kid
-  found_kid x p l f = r.below x p (in-out (spots t) (kid x p) nobody f.start r.nobody_out)
+  found_kid x p l f = r.below x p (in_out (spots t) (kid x p) nobody f.start r.nobody_out)
 
   found_above : (x : ℕ) (p : Place) → In (spots t) x → (l : ℕ) → Found (kid x p) l → Found x l
   unfolding up
@@ -190,7 +190,7 @@ module _ (t : List Node) (r : Treed t) where
   leaves_distinct = rw walked_leaves walked.1
 
   pub leaves_within : Each (λ l. l < length t) (leaves t)
-  leaves_within = each_map (λ l (b : Bare (spots t) l). in-range t l b.0) (leaves t) leaves_bare
+  leaves_within = each_map (λ l (b : Bare (spots t) l). in_range t l b.0) (leaves t) leaves_bare
 
   pub leaves_few : length (leaves t) ≤ length t
   leaves_few = pigeonhole (length t) (leaves t) leaves_distinct leaves_within

@@ -2,7 +2,7 @@
 use mathlib.Core.Path.{sym, ◌∙◌}
 use Prim.Native.Nat.{◌-◌, ◌*◌}
 use borrow.Author.Rules.{rules}
-use borrow.Author.Tests.{not_true, not-false}
+use borrow.Author.Tests.{not-true, not-false}
 use Rattle.definition.specs.Limits.{node_length}
 use Rattle.cases.specs.Lent.{is_marked, are_marked}
 use Rattle.cases.proofs.Between.{Passing, between_start, between_end, between_miss, between_next}
@@ -20,7 +20,7 @@ loop-holds c = between_start _ _ _
 
 returns : tie.Need-returns invariant-loop decreases-loop
 unfolding are_marked
-returns c = between_miss c.before.before.before.loop.invariant c.before.before.loop-test.true (sym c.before.is-marked.ensures ∙ not_true _ c.if1.true)
+returns c = between_miss c.before.before.before.loop.invariant c.before.before.loop-test.true (sym c.before.is-marked.ensures ∙ not-true _ c.if1.true)
 
 loop-again : tie.Need-loop-preserved invariant-loop decreases-loop
 loop-again c = between_next c.before.before.before.loop.invariant c.before.before.loop-test.true (sym c.before.is-marked.ensures ∙ not-false _ c.if1.false)

@@ -1,4 +1,4 @@
-use borrow.Author.Tests.{not_true, not-false}
+use borrow.Author.Tests.{not-true, not-false}
 use borrow.Author.Rules.{rules}
 use Rattle.cases.specs.Lent.{are_zero}
 use Rattle.cases.proofs.lent.are_zero.Statement.{statement}
@@ -6,11 +6,11 @@ use Rattle.cases.proofs.lent.are_zero.Tie as tie
 
 returns : tie.Need-returns
 unfolding are_zero
-returns c = rw (← c.before.is-ended.ensures, not_true c.before.is-ended.result c.if1.true)
+returns c = rw (← c.before.is-ended.ensures, not-true c.before.is-ended.result c.if1.true)
 
 returns-2 : tie.Need-returns-2
 unfolding are_zero
-returns-2 c = rw (← c.before.before.before.is-ended.ensures, not-false c.before.before.before.is-ended.result c.before.before.if1.false, ← c.before.is-ended2.ensures, not_true c.before.is-ended2.result c.if2.true)
+returns-2 c = rw (← c.before.before.before.is-ended.ensures, not-false c.before.before.before.is-ended.result c.before.before.if1.false, ← c.before.is-ended2.ensures, not-true c.before.is-ended2.result c.if2.true)
 
 returns-3 : tie.Need-returns-3
 unfolding are_zero

@@ -1,4 +1,4 @@
-use borrow.Author.Tests.{le-leb, lt-leb, not_true, not-false}
+use borrow.Author.Tests.{le-leb, lt-leb, not-true, not-false}
 use borrow.Author.Rules.{rules}
 use Rattle.cases.specs.Lent.{formulas_agree}
 use Rattle.cases.proofs.lent.formulas_agree.Statement.{statement}
@@ -10,7 +10,7 @@ returns c = rw (lt-leb _ _ c.if1.true)
 
 returns-2 : tie.Need-returns-2
 unfolding formulas_agree
-returns-2 c = rw (le-leb _ _ c.before.before.if1.false, ← c.before.begins.ensures, not_true c.before.begins.result c.if2.true)
+returns-2 c = rw (le-leb _ _ c.before.before.if1.false, ← c.before.begins.ensures, not-true c.before.begins.result c.if2.true)
 
 returns-3 : tie.Need-returns-3
 unfolding formulas_agree
