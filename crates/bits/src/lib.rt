@@ -1,4 +1,6 @@
 // A set of numbers below LEAF_COUNT, one bit each, in an array of LEAF_WORDS words; a set of worlds, each below 32, in one word.
+#![tactic(auto)]
+
 ghost use Rattle.std.specs.Prelude.{◌≡◌, Bool, not, ◌&&◌, ◌||◌, List, ◌∷◌, ℕ, ◌/◌, ◌%◌, ◌<◌, eqb, ltb};
 ghost use Rattle.definition.specs.Limits.{most_identifiers};
 ghost use Rattle.limits.specs.Arrays.{leaf_count};

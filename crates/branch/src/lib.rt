@@ -1,4 +1,6 @@
 // The branch: its records in the array of formulas, its marked records as the first nodes, queued.
+#![tactic(auto)]
+
 ghost use Rattle.std.specs.Prelude.{◌≡◌, List, [], ◌≤◌, ◌/◌, length};
 ghost use Rattle.definition.specs.Limits.{record_length, most_records, most_identifiers, most_formulas};
 ghost use Rattle.arrays.specs.Listed.{Listed};

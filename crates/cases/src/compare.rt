@@ -16,7 +16,7 @@ use prover::{Answer, prove};
 const MARGIN: usize = 6;
 
 // What differs.
-#[derive(Drop)]
+#[derive(Clone, Copy)]
 pub enum Difference {
     Nothing,
     Form,
@@ -29,7 +29,7 @@ pub enum Difference {
 }
 
 // What a line expects; the word by its first letter.
-#[derive(Drop)]
+#[derive(Clone, Copy)]
 struct Expected {
     word: u8,
     identifiers: usize,

@@ -8,7 +8,7 @@ ghost use Rattle.cases.specs.Text.{Fed, digest_of, number_or_none, letter_of, ha
 use crate::bytes::{byte, two, wide};
 use limits::{EDGE_TRAY_LENGTH, MOST_FORMULAS, MOST_IDENTIFIERS, NODE_LENGTH, RECORD_LENGTH};
 
-#[derive(Drop)]
+#[derive(Clone, Copy)]
 pub struct Digest {
     pub first: u64,
     pub second: u64,
@@ -80,7 +80,7 @@ fn has_one(kind: u8) -> bool
 }
 
 // The record of a formula: its kind and its two links.
-#[derive(Drop)]
+#[derive(Clone, Copy)]
 struct Links {
     kind: u8,
     left: usize,

@@ -1,5 +1,7 @@
 // Replays the vectors in the files that the arguments name through the call, and compares verdict,
 // counts, trees, worlds, formulas, edges and every tray byte that the papers fix (docs/ORACLE.md).
+#![tactic(auto)]
+
 mod bytes;
 mod compare;
 mod digest;

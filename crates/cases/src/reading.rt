@@ -6,7 +6,7 @@ ghost use Rattle.cases.specs.File.{FileRead, Takes, Went};
 use crate::compare::{Difference, compare_line};
 
 // The line's number in its file, the cases so far and how many of them failed.
-#[derive(Drop)]
+#[derive(Clone, Copy)]
 pub struct Tally {
     pub line: usize,
     pub cases: usize,
@@ -76,7 +76,7 @@ fn finish(name: &[u8], line: &[u8], tally: Tally) -> Tally
 }
 
 // The line so far, and the tally.
-#[derive(Drop)]
+#[derive(Clone, Copy)]
 struct Progress {
     len: usize,
     tally: Tally,
@@ -121,7 +121,7 @@ fn feed_all(name: &[u8], line: &mut [u8], p: Progress, part: &[u8]) -> Progress
 }
 
 // What one more read gave.
-#[derive(Drop)]
+#[derive(Clone, Copy)]
 enum More {
     Failed,
     Ended,

@@ -1,4 +1,6 @@
 // The records of a branch, and the checks before the run, part by part in their order.
+#![tactic(auto)]
+
 ghost use Rattle.std.specs.Prelude.{◌≡◌, true, false, ◌||◌, List, [], ◌++◌, ℕ, ◌<◌, ◌≤◌, ◌+◌, ◌*◌, ◌/◌, length, get_or, ltb, leb};
 ghost use Rattle.std.proofs.Math.Option.{none, some};
 ghost use Rattle.definition.specs.Limits.{record_length, most_records};
@@ -15,7 +17,7 @@ use limits::{
 };
 
 // A record of the branch; the kind is its byte.
-#[derive(Drop)]
+#[derive(Clone, Copy)]
 pub struct Record {
     pub kind: u16,
     pub mark: u16,
@@ -24,7 +26,7 @@ pub struct Record {
 }
 
 // The first check that applies, with its record number; or none does.
-#[derive(Drop)]
+#[derive(Clone, Copy)]
 pub enum Checked {
     Accepted,
     Refused { number: u16, place: u16 },

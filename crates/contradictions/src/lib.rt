@@ -1,5 +1,7 @@
 // Contradictions of the paths: path.rs's get_contradictory_node_ids and tree.rs's check_for_contradictions.
 // A tree that was checked when it had fewer nodes is searched at the leaves that are new, and there from the new nodes alone.
+#![tactic(auto)]
+
 ghost use Rattle.std.specs.Prelude.{◌≡◌, ◌&&◌, cond, List, ℕ, ◌≤◌, ◌-◌, length};
 ghost use Rattle.std.proofs.Math.Option.{map};
 ghost use Rattle.definition.specs.Limits.{most_identifiers, most_formulas};
@@ -24,7 +26,7 @@ use tree::{
 };
 
 // What the search of a path finds: nothing, or a node and an earlier one that contradict one another.
-#[derive(Drop)]
+#[derive(Clone, Copy)]
 pub enum Contradiction {
     None,
     Between {

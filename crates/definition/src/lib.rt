@@ -1,1 +1,3 @@
 // The definition of the call, in specs/, and its laws, in proofs/; no code.
+#![tactic(auto)]
+

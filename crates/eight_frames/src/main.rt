@@ -1,4 +1,6 @@
 // Eight Frames: records on standard input, a line for each of the flags 0 to 7 on standard output.
+#![tactic(auto)]
+
 fn main() {
     let mut kept = [0u8; frames::KEPT_LENGTH];
     let mut text = [0u8; frames::TEXT_LENGTH];

@@ -1,4 +1,6 @@
 // Formulas as numbered records, four numbers to a record (kind, mark, left, right), in one lent array.
+#![tactic(auto)]
+
 ghost use Rattle.std.specs.Prelude.{◌≡◌, List, [], ◌∷◌, ◌++◌, ◌≤◌, ◌<◌};
 ghost use Rattle.definition.specs.Limits.{most_formulas};
 ghost use Rattle.limits.specs.Arrays.{formula_fields};
@@ -11,7 +13,7 @@ ghost use Rattle.formula.specs.Recorded.{Recorded, column, missing, row};
 use limits::{FORMULA_FIELDS, FORMULAS_FULL, Formulas, MOST_FORMULAS};
 
 // The number of a formula: an input record or one that a rule made.
-#[derive(Drop)]
+#[derive(Clone, Copy)]
 pub struct FormulaNumber(pub u16);
 
 impl FormulaNumber {

@@ -1,4 +1,6 @@
 // Eight Frames: what is kept of standard input, and the lines that are printed of it.
+#![tactic(auto)]
+
 ghost use Rattle.std.specs.Prelude.{◌≡◌, false, [], ◌∷◌, ◌++◌, ◌+◌, ◌-◌, ◌≤◌, ◌<◌, min, length, take};
 ghost use Rattle.io.specs.Counts.{IsPrefixLen};
 ghost use Rattle.definition.specs.Trays.{zero_trays};
@@ -40,14 +42,14 @@ pub type LineBytes = [u8; LINE_LENGTH];
 pub type TextBytes = [u8; TEXT_LENGTH];
 
 // What came of reading: an error, or how many bytes have been seen.
-#[derive(Drop)]
+#[derive(Clone, Copy)]
 enum Input {
     Failed,
     Seen { seen: usize },
 }
 
 // What came of a run: an argument that is not taken, an error, or what was read and printed.
-#[derive(Drop)]
+#[derive(Clone, Copy)]
 pub enum Ran {
     ArgumentGiven,
     ReadFailed,
@@ -56,7 +58,7 @@ pub enum Ran {
 }
 
 // One more read: an error, the end of the input, or how many bytes have been seen.
-#[derive(Drop)]
+#[derive(Clone, Copy)]
 enum More {
     Failed,
     Ended,

@@ -1,4 +1,6 @@
 // Eight Frames with an argument: nothing is printed on standard output, whatever standard input has.
+#![tactic(auto)]
+
 fn main() {
     let mut kept = [0u8; frames::KEPT_LENGTH];
     let mut text = [0u8; frames::TEXT_LENGTH];

@@ -1,4 +1,6 @@
 // Further cases of Eight Frames: a title, then the eight lines.
+#![tactic(auto)]
+
 use limits::{EDGE_TRAY_LENGTH, FORMULA_TRAY_LENGTH, NODE_TRAY_LENGTH, RECORD_LENGTH};
 use prover::prove;
 

@@ -1,4 +1,6 @@
 // Eight Frames on a branch whose runs issue as many identifiers as there may be.
+#![tactic(auto)]
+
 fn main() {
     let mut kept = [0u8; frames::KEPT_LENGTH];
     let mut text = [0u8; frames::TEXT_LENGTH];

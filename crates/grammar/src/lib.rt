@@ -1,1 +1,3 @@
 // The definition of a text of typed rules, in specs/, and its laws, in proofs/; no code.
+#![tactic(auto)]
+

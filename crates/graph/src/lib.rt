@@ -1,4 +1,6 @@
 // The world graph.
+#![tactic(auto)]
+
 mod missing_vertices;
 pub mod vertices;
 
@@ -15,7 +17,7 @@ use missing_vertices::{
 };
 use setting::Setting;
 
-#[derive(Drop)]
+#[derive(Clone, Copy)]
 pub struct PossibleWorld(pub u16);
 
 impl PossibleWorld {
@@ -43,7 +45,7 @@ impl PossibleWorld {
 }
 
 // An edge; the name is the Rust's.
-#[derive(Drop)]
+#[derive(Clone, Copy)]
 pub struct GraphVertex {
     pub from: PossibleWorld,
     pub to: PossibleWorld,

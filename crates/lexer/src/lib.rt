@@ -1,4 +1,6 @@
 // The tokens of a text: what the bytes spell, and whether they can be continued to a text.
+#![tactic(auto)]
+
 ghost use Rattle.std.specs.Prelude.{◌≡◌, true, ◌+◌, ◌*◌, ◌-◌, ◌<◌, ◌≤◌, eqb, length, get_or};
 ghost use Rattle.definition.specs.Limits.{most_text, largest_atom};
 ghost use Rattle.grammar.specs.Tokens.{Token};
@@ -49,7 +51,7 @@ const WANTS_OPERAND: u8 = 1;
 const WANTS_OPERATOR: u8 = 2;
 
 // A token: a sign and a joint have the number of their kind.
-#[derive(Drop)]
+#[derive(Clone, Copy)]
 pub enum Word {
     End,
     Name(u16),
@@ -62,7 +64,7 @@ pub enum Word {
 }
 
 // The next token, where it begins, and where what follows begins.
-#[derive(Drop)]
+#[derive(Clone, Copy)]
 pub struct Next {
     pub word: Word,
     pub start: usize,
@@ -70,28 +72,28 @@ pub struct Next {
 }
 
 // A token that is no name, and the number of its bytes.
-#[derive(Drop)]
+#[derive(Clone, Copy)]
 pub struct Fixed {
     pub word: Word,
     pub size: usize,
 }
 
 // Where digits end, and their value; any value above the largest atom stands for one that no atom has.
-#[derive(Drop)]
+#[derive(Clone, Copy)]
 pub struct Digits {
     pub end: usize,
     pub value: u32,
 }
 
 // What is wanted after a token, and how many brackets are open then.
-#[derive(Drop)]
+#[derive(Clone, Copy)]
 pub enum Followed {
     Refused,
     To { wants: u8, depth: u16 },
 }
 
 // What the tokens of a text come to.
-#[derive(Drop)]
+#[derive(Clone, Copy)]
 pub enum Scanned {
     TooLong,
     Taken,

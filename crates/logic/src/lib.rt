@@ -1,4 +1,6 @@
 // What necessities give, path by path, and the rules that act as Possible or Necessary.
+#![tactic(auto)]
+
 ghost use Rattle.std.specs.Prelude.{◌≡◌, cond, List, [], ◌∷◌, ◌++◌, ℕ, suc, ◌≤◌, ◌<◌, ◌+◌, length, get_or, set};
 ghost use Rattle.std.proofs.Math.Option.{Option, some};
 ghost use Rattle.definition.specs.Limits.{most_identifiers};
@@ -42,7 +44,7 @@ use subtree::{Counts, ProofSubtree, append_logic_rule_result, append_subtree, pu
 use tree::{Chain, Issued, ProofTreeNodeID, leaves_below, new_node, world_of};
 
 // The counts of a run, and whether it has proved. More nodes than there is room for: full.
-#[derive(Drop)]
+#[derive(Clone, Copy)]
 pub struct Progress {
     pub formulas: usize,
     pub nodes: usize,

@@ -1,4 +1,6 @@
 // Necessities: what is stored of them, on which paths they are given again, and what they give there.
+#![tactic(auto)]
+
 ghost use Rattle.std.specs.Prelude.{◌≡◌, Bool, false, ◌&&◌, ◌||◌, not, List, [], ◌++◌, map, ℕ, ◌≤◌, ◌<◌, ◌+◌, eqb, length, get_or, set};
 ghost use Rattle.definition.specs.Limits.{most_identifiers};
 ghost use Rattle.arrays.specs.Listed.{Listed};
@@ -30,7 +32,7 @@ use tree::{
 };
 
 // A fork in progress, where `on`: the forking node and the new world.
-#[derive(Drop)]
+#[derive(Clone, Copy)]
 pub struct Forking {
     pub on: bool,
     pub node: ProofTreeNodeID,

@@ -1,4 +1,6 @@
 // The stack of stored necessities, a row of numbers each: formula, world, spawner, the word of the worlds that it has visited, and the row of leaf bits where its leaves stand.
+#![tactic(auto)]
+
 ghost use Rattle.std.specs.Prelude.{◌≡◌, List, [], ◌∷◌, reverse, ℕ, ◌+◌, ◌*◌, ◌≤◌, ◌<◌, get_or, set};
 ghost use Rattle.std.proofs.lemmas.List.Edits.{sets};
 ghost use Rattle.definition.specs.Limits.{most_identifiers};

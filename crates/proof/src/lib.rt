@@ -1,4 +1,6 @@
 // The run: a step, and the steps until none is due.
+#![tactic(auto)]
+
 ghost use Rattle.std.specs.Prelude.{◌≡◌, false, List, ℕ, suc, ◌<◌, ◌≤◌};
 ghost use Rattle.definition.specs.Limits.{most_identifiers, most_formulas};
 ghost use Rattle.definition.specs.Records.{Rec};

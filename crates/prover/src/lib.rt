@@ -1,4 +1,6 @@
 // The call: a branch, a flag byte and three lent trays give a verdict or a refusal.
+#![tactic(auto)]
+
 ghost use Rattle.std.specs.Prelude.{◌≡◌, false, List, [], ℕ, ◌≤◌, ◌/◌, length};
 ghost use Rattle.std.proofs.Math.Option.{none};
 ghost use Rattle.definition.specs.Limits.{record_length, most_records, most_marked};
@@ -35,7 +37,7 @@ use trays::{clear, clear_edges, write_edges, write_formulas, write_nodes};
 use tree::NO_NUMBER;
 
 // A verdict, or a refusal by the table's number with its record number.
-#[derive(Drop)]
+#[derive(Clone, Copy)]
 pub enum Answer {
     Refusal {
         number: u16,

@@ -1,4 +1,6 @@
 // The queue of waiting nodes.
+#![tactic(auto)]
+
 ghost use Rattle.std.specs.Prelude.{◌≡◌, List, ◌++◌, map, ℕ, ◌≤◌, length};
 ghost use Rattle.definition.specs.Limits.{most_identifiers, most_formulas};
 ghost use Rattle.arrays.specs.Listed.{Listed};
@@ -16,7 +18,7 @@ use limits::{CLASS_COUNT, Classes, Formulas, Nodes, Waiting};
 use tree::{ProofTreeNodeID, formula_of, left_of, middle_of, right_of};
 
 // A node that is taken, and how many go on waiting; or none, where no node waits.
-#[derive(Drop)]
+#[derive(Clone, Copy)]
 pub enum Popped {
     None,
     Node { id: ProofTreeNodeID, waiting: usize },

@@ -1,4 +1,6 @@
 // The reader of typed rules: the levels of the grammar, one function by level that calls itself one level down, to atoms; brackets call the top level again.
+#![tactic(auto)]
+
 ghost use Rattle.std.specs.Prelude.{◌≡◌, ◌+◌, ◌*◌, ◌-◌, ◌<◌, ◌≤◌, ◌/◌, ◌%◌, length, set, replicate};
 ghost use Rattle.definition.specs.Limits.{record_length, most_text, text_tray_length};
 ghost use Rattle.grammar.specs.Tokens.{Joint, level, loosest};
@@ -29,7 +31,7 @@ const NO_PHRASE: u32 = 0;
 const NO_JOINT: u8 = 0;
 
 // What a text comes to.
-#[derive(Drop)]
+#[derive(Clone, Copy)]
 pub enum Reading {
     ShortTray,
     LongText,
@@ -260,7 +262,7 @@ fn lines(tokens: &Tokens, records: &mut TextRecords) -> u16
 
 // Copies the records into the tray that is lent.
 fn copy_out(records: &TextRecords, tray: &mut [u8])
-    requires* { do ⌜ text_tray_length ≤ (← ⟦tray.len()⟧) ⌝ }
+    requires { text_tray_length ≤ length tray.old }
     ensures { length records.now ≡ text_tray_length → tray.new ≡ over records.now tray.old }
 {
     let mut i: usize = 0;
@@ -272,7 +274,7 @@ fn copy_out(records: &TextRecords, tray: &mut [u8])
 
 // The records of a text that was taken, into the tray that is lent; how many there are.
 fn write_lines(tokens: &Tokens, tray: &mut [u8]) -> u16
-    requires* { do ⌜ text_tray_length ≤ (← ⟦tray.len()⟧) ⌝ }
+    requires { text_tray_length ≤ length tray.old }
     ensures { LinesWritten tokens.now tray.old tray.new result }
 {
     let mut records = [0u8; TEXT_TRAY_LENGTH];

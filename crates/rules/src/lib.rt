@@ -1,4 +1,6 @@
 // The rule of a formula: which it is, the records that it makes, and the nodes at the formula's own world.
+#![tactic(auto)]
+
 ghost use Rattle.std.specs.Prelude.{◌≡◌, List, [], ◌∷◌, ◌++◌, ℕ, length};
 ghost use Rattle.formula.specs.Recorded.{Recorded};
 ghost use Rattle.definition.specs.Records as kind;
@@ -19,7 +21,7 @@ use limits::{Formulas, Nodes};
 use tree::{Chain, Issued, ProofTreeNodeID};
 
 // The rules, by the outer kind and, under Non, the inner kind.
-#[derive(Drop)]
+#[derive(Clone, Copy)]
 pub enum LogicRule {
     Nothing,
     And,
@@ -40,7 +42,7 @@ pub enum LogicRule {
 }
 
 // What a rule puts on the paths, by record numbers; of two in a chain, the first stands above.
-#[derive(Drop)]
+#[derive(Clone, Copy)]
 pub enum Consequence {
     Nothing,
     Down1(FormulaNumber),
@@ -52,7 +54,7 @@ pub enum Consequence {
 }
 
 // A rule's consequence, and the count of records after those that it made.
-#[derive(Drop)]
+#[derive(Clone, Copy)]
 pub struct Expanded {
     pub formulas: usize,
     pub rule: Consequence,
@@ -287,7 +289,7 @@ pub fn expand(formulas: &mut Formulas, count: usize, f: FormulaNumber) -> Expand
 }
 
 // The nodes of a rule at its formula's own world: the count after them, and their chains.
-#[derive(Drop)]
+#[derive(Clone, Copy)]
 pub struct AppliedHere {
     pub nodes: usize,
     pub left: Chain,

@@ -1,4 +1,6 @@
 // Which formulas contradict one another: binary_logic_semantics.rs.
+#![tactic(auto)]
+
 ghost use Rattle.std.specs.Prelude.{◌≡◌, ◌&&◌, List, ◌≤◌};
 ghost use Rattle.definition.specs.Limits.{most_formulas};
 ghost use Rattle.definition.specs.Lists.{empty};
@@ -11,7 +13,7 @@ use formula::{FormulaNumber, kind_at, left_at, right_at};
 use limits::Formulas;
 
 // What a formula says or denies: no atom, one, or the agreement of two in this order.
-#[derive(Drop)]
+#[derive(Clone, Copy)]
 pub enum Literal {
     Nothing,
     Atom(u16),
@@ -103,7 +105,7 @@ fn is_nothing(p: Literal) -> bool
 }
 
 // What a formula says and denies, so that many can be held against it.
-#[derive(Drop)]
+#[derive(Clone, Copy)]
 pub struct Claim {
     pub says: Literal,
     pub denies: Literal,

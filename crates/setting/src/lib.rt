@@ -1,10 +1,12 @@
 // What a run is asked with, in one struct that is passed whole, by value.
+#![tactic(auto)]
+
 ghost use Rattle.std.specs.Prelude.{◌≡◌, ◌/◌, ◌%◌, eqb};
 ghost use Rattle.definition.specs.Setting.{setting_of};
 ghost use Rattle.setting.specs.Asked.{asked};
 
 // The fields that the Rust's NormalModalLogic has for the frame, and whether contradiction checks are skipped.
-#[derive(Drop)]
+#[derive(Clone, Copy)]
 pub struct Setting {
     pub is_reflexive: bool,
     pub is_symmetric: bool,

@@ -1,4 +1,6 @@
 // Bytes that are put into a lent slice, one behind the other; what does not fit is left out. specs/Text says what text is in bytes.
+#![tactic(auto)]
+
 ghost use Rattle.std.specs.Prelude.{◌≡◌, List, [], ◌∷◌, ◌⊎◌, ℕ, ◌+◌, ◌≤◌, ◌<◌, ◌/◌, ◌%◌, length};
 ghost use Rattle.definition.specs.Lists.{padded};
 ghost use Rattle.definition.specs.Trays.{two, over};

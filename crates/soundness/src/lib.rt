@@ -1,1 +1,3 @@
 // Theorems about crates/definition, in specs/Claims.antt and proofs/; no code.
+#![tactic(auto)]
+

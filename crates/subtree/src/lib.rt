@@ -1,4 +1,6 @@
 // Subtrees: copied, appended below the leaves that take them, and queued.
+#![tactic(auto)]
+
 ghost use Rattle.std.specs.Prelude.{◌≡◌, List, [], ◌∷◌, ◌++◌, map, reverse, ℕ, ◌≤◌, ◌<◌, ◌+◌, ◌*◌, length, get_or, drop};
 ghost use Rattle.definition.specs.Limits.{most_identifiers};
 ghost use Rattle.limits.specs.Arrays.{item_fields};
@@ -19,7 +21,7 @@ use tree::{
     formula_of, link_chain, spawner_of, takers, world_of,
 };
 
-#[derive(Drop)]
+#[derive(Clone, Copy)]
 pub struct ProofSubtree {
     pub left: Chain,
     pub middle: Chain,
@@ -27,7 +29,7 @@ pub struct ProofSubtree {
 }
 
 // How many nodes there are, and how many entries the list beside them has: of nodes that wait, or of subtrees. More nodes than there is room for: full.
-#[derive(Drop)]
+#[derive(Clone, Copy)]
 pub struct Counts {
     pub nodes: usize,
     pub listed: usize,
@@ -93,7 +95,7 @@ fn copy_chain(nodes: &mut Nodes, len: usize, c: Chain) -> IssuedChain
 }
 
 // A subtree of identifiers that were drawn, and how many are issued with them.
-#[derive(Drop)]
+#[derive(Clone, Copy)]
 struct IssuedSubtree {
     subtree: ProofSubtree,
     len: usize,

@@ -1,4 +1,6 @@
 // The trays that a run leaves: nodes, formulas, edges.
+#![tactic(auto)]
+
 ghost use Rattle.std.specs.Prelude.{◌≡◌, Bool, cond, List, [], map, ◌⊎◌, ◌≤◌, ◌<◌, length, get_or, replicate};
 ghost use Rattle.definition.specs.Limits.{most_identifiers, most_formulas, graph_width, node_tray_length, formula_tray_length, edge_tray_length};
 ghost use Rattle.definition.specs.Lists.{Each, concat_map, padded};
@@ -147,9 +149,9 @@ fn put_formula(
 // The formula tray: the records, then zeros.
 // In a short tray, or of more records than the limit, nothing is written.
 pub fn write_formulas(tray: &mut [u8], formulas: &Formulas, count: usize)
-    ensures* { λ r. ⌜ ((rs : List Rec) → Recorded rs count formulas.now → count ≤ most_formulas → Each (λ (r : Rec). r.mark < 256) rs
+    ensures { ((rs : List Rec) → Recorded rs count formulas.now → count ≤ most_formulas → Each (λ (r : Rec). r.mark < 256) rs
         → formula_tray_length ≤ length tray.old → tray.new ≡ over (padded formula_tray_length (concat_map record_bytes rs)) tray.old)
-        × ((length tray.old < formula_tray_length) ⊎ (most_formulas < count) → tray.new ≡ tray.old) ⌝ }
+        × ((length tray.old < formula_tray_length) ⊎ (most_formulas < count) → tray.new ≡ tray.old) }
 {
     if tray.len() < FORMULA_TRAY_LENGTH {
         return;

@@ -1,4 +1,6 @@
 // The nodes of the proof tree, nine numbers to a node, in one lent array; paths and their leaves.
+#![tactic(auto)]
+
 ghost use Rattle.std.specs.Prelude.{◌≡◌, cond, ◌⊎◌, List, [], ◌∷◌, ◌++◌, ℕ, ◌≤◌, ◌<◌, ◌+◌, eqb, leb, length, get_or, set};
 ghost use Rattle.definition.specs.Limits.{most_identifiers};
 ghost use Rattle.arrays.specs.Listed.{Listed};
@@ -17,7 +19,7 @@ use formula::FormulaNumber;
 use graph::PossibleWorld;
 use limits::{FULL, MOST_IDENTIFIERS, NODE_FIELDS, Nodes, Numbers};
 
-#[derive(Drop)]
+#[derive(Clone, Copy)]
 pub struct ProofTreeNodeID(pub u16);
 
 impl ProofTreeNodeID {
@@ -41,7 +43,7 @@ impl ProofTreeNodeID {
 }
 
 // The sequence that every identifier is drawn from: how many are issued, which is the one that is next; FULL after a draw that found no room.
-#[derive(Drop)]
+#[derive(Clone, Copy)]
 struct ProofTreeNodeIDSequence {
     issued: usize,
 }
@@ -86,7 +88,7 @@ impl ProofTreeNodeIDSequence {
 }
 
 // An identifier, and how many are issued with it.
-#[derive(Drop)]
+#[derive(Clone, Copy)]
 pub struct Issued {
     pub id: ProofTreeNodeID,
     pub len: usize,
@@ -113,7 +115,7 @@ pub fn id_at(i: usize) -> ProofTreeNodeID
 }
 
 // `count` identifiers from `start` on; the first is the top if rising, else the last.
-#[derive(Drop)]
+#[derive(Clone, Copy)]
 pub struct Chain {
     pub start: ProofTreeNodeID,
     pub count: u16,
@@ -129,7 +131,7 @@ impl Chain {
 }
 
 // Identifiers drawn one after the other, the first on top, and how many are issued with them.
-#[derive(Drop)]
+#[derive(Clone, Copy)]
 pub struct IssuedChain {
     pub chain: Chain,
     pub len: usize,

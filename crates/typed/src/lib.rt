@@ -1,4 +1,6 @@
 // The typed call: a text, a flag byte and four lent trays give a verdict or a refusal.
+#![tactic(auto)]
+
 ghost use Rattle.prover.specs.Contract.{trays};
 ghost use Rattle.prover.specs.Said.{said};
 ghost use Rattle.typed.specs.Contract.{TypedContract};

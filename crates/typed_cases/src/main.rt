@@ -1,5 +1,7 @@
 // Typed rules through the call: texts from standard input, each behind its length in two bytes, and for each a line: what the call answers
 // at flags 0, how many records were read, and a digest of them.
+#![tactic(auto)]
+
 ghost use Rattle.std.specs.Prelude.{◌≡◌, length};
 
 use limits::{

@@ -1,4 +1,6 @@
 // Eight Frames of typed rules: a text on standard input, a line for each of the flags 0 to 7 on standard output.
+#![tactic(auto)]
+
 fn main() {
     let mut kept = [0u8; typed_text::KEPT_LENGTH];
     let mut text = [0u8; frames::TEXT_LENGTH];

@@ -1,4 +1,6 @@
 // Further cases of Eight Frames of typed rules: a title, then the eight lines; of a garbled text also what standard error gets.
+#![tactic(auto)]
+
 use frames::{TEXT_LENGTH, TextBytes};
 use limits::MOST_TEXT;
 use typed_text::{DIAGNOSIS_LENGTH, DiagnosisBytes, Shown};

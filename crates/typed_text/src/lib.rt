@@ -1,4 +1,6 @@
 // Typed rules: the eight lines of a text, and where it is garbled, as a compiler says it.
+#![tactic(auto)]
+
 ghost use Rattle.std.specs.Prelude.{◌≡◌, [], ◌∷◌, ◌++◌, ◌+◌, ◌-◌, ◌*◌, ◌≤◌, ◌<◌, cond, length, take};
 ghost use Rattle.io.specs.Counts.{IsPrefixLen};
 ghost use Rattle.io.specs.Digits.{hex_digit_ascii};
@@ -29,14 +31,14 @@ pub type KeptBytes = [u8; KEPT_LENGTH];
 pub type DiagnosisBytes = [u8; DIAGNOSIS_LENGTH];
 
 // What is printed of a text: so many bytes, and of a garbled one the offset too.
-#[derive(Drop)]
+#[derive(Clone, Copy)]
 pub enum Shown {
     Lines { printed: usize },
     Unreadable { printed: usize, at: usize },
 }
 
 // What came of reading: an error, or how many bytes are kept.
-#[derive(Drop)]
+#[derive(Clone, Copy)]
 enum Input {
     Failed,
     Seen { seen: usize },

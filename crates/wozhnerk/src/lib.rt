@@ -1,4 +1,6 @@
 // The functions for C and Rust, and the number in which they answer.
+#![tactic(auto)]
+
 ghost use Rattle.std.specs.Prelude.{◌≡◌, cond, ◌≤◌};
 ghost use Rattle.prover.specs.Contract.{trays, Contract};
 ghost use Rattle.prover.specs.Said.{said};
