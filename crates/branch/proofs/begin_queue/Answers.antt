@@ -1,0 +1,6 @@
+use borrow.Author.Rules.{rules}
+use Rattle.branch.proofs.Begun.{queued}
+use Rattle.branch.proofs.begin_queue.Goals as goal
+
+pub returns : goal.returns
+returns c = λ rs e few l p. queued rs e few c.push_tree_node.ensures l p

@@ -1,0 +1,21 @@
+use Prim.Native.Nat.{◌-◌}
+use lib.Dec.{eqb}
+use lib.ListN.{get_or}
+use borrow.Author.Rules.{rules}
+use Rattle.cases.specs.Bytes.{filled}
+use Rattle.cases.proofs.Between.{Passing, between_start, between_end, between_miss, between_next, read_equal, read_unequal}
+use Rattle.cases.proofs.bytes.all.Goals as goal
+
+pub loop-i-init : goal.loop-i-init
+loop-i-init c = between_start _ _ _
+
+pub returns-then-byte-value : goal.returns-then-byte-value
+unfolding filled
+returns-then-byte-value c = between_miss c.loop-i.invariant c.loop-i-test.true (read_unequal c.byte.ensures c.if-byte-value.true)
+
+pub loop-i-preserved : goal.loop-i-preserved
+loop-i-preserved c = between_next c.loop-i.invariant c.loop-i-test.true (read_equal c.byte.ensures c.if-byte-value.false)
+
+pub returns : goal.returns
+unfolding filled
+returns c = between_end c.loop-i.invariant c.loop-i-test.false

@@ -1,0 +1,13 @@
+use mathlib.Core.Logic.{⊎_elim, inl, inr}
+use Prim.Native.Nat.{◌-◌}
+use lib.ListN.{length}
+use borrow.Author.Rules.{rules}
+use Rattle.cases.proofs.Words.{Starting, starting_start, starting_end, starting_found, starting_next}
+use Rattle.cases.proofs.bytes.start_of.Given as goal
+
+-- At every turn word k of the line starts where word `k - spaces` of what is left from i on starts; `spaces` is at most k.
+abbrev pub invariant-loop-i : goal.invariant-loop-i
+invariant-loop-i l = Starting l.line l.k l.spaces l.i
+
+abbrev pub decreases-loop-i : goal.decreases-loop-i
+decreases-loop-i l = length l.line - l.i

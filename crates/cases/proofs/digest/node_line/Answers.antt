@@ -1,0 +1,12 @@
+use Rattle.cases.proofs.Lines.{no_node, a_node}
+use borrow.Author.Rules.{rules}
+use Rattle.cases.proofs.digest.node_line.Goals as goal
+
+pub returns-then-nodes-at : goal.returns-then-nodes-at
+returns-then-nodes-at c = no_node _ _ _ _ c.if-nodes-at.true
+
+pub returns : goal.returns
+returns c =
+    let world = c in
+    a_node _ _ _ world.before.before.before.if1.false world.before.before.link.ensures world.before.small.ensures world.small2.ensures
+    c.two.ensures.0 c.formula_or_comment-written.ensures c.add.ensures c.link-spawner.ensures c.link.ensures

@@ -1,0 +1,14 @@
+use Prim.Native.Nat.{◌-◌, min}
+use native.Mathlib.Omega.{arith}
+use lib.ListN.{length}
+use Rattle.definition.specs.Limits.{edge_tray_length}
+use Rattle.cases.proofs.Lines.{Left, world, start, next, worlds_end}
+use borrow.Author.Rules.{rules}
+use Rattle.cases.proofs.digest.of_trays.Given as goal
+
+-- At every turn, the edge lines of the rows from u on, fed to the digest so far, give what those of all rows give after the node lines.
+abbrev pub invariant-loop-u : goal.invariant-loop-u
+invariant-loop-u l = Left (world l.edges) (min edge_tray_length (length l.edges)) l.initial.text l.text l.u
+
+abbrev pub decreases-loop-u : goal.decreases-loop-u
+decreases-loop-u l = edge_tray_length - l.u

@@ -1,0 +1,18 @@
+use borrow.Author.Rules.{rules}
+use Rattle.cases.proofs.Filed.{Begun, begun_start, begun_next, file_whole, file_broken}
+use Rattle.cases.proofs.reading.read_file.Goals as goal
+
+pub loop-reads-init : goal.loop-reads-init
+loop-reads-init c = begun_start _ _ (search rules)
+
+pub returns-in-Failed : goal.returns-in-Failed
+returns-in-Failed c = file_broken _ _ _ c.loop-reads.invariant c.report.ensures
+
+pub returns-in-Ended : goal.returns-in-Ended
+returns-in-Ended c = file_whole _ _ _ c.loop-reads.invariant
+
+pub loop-reads-preserved : goal.loop-reads-preserved
+loop-reads-preserved c = begun_next _ _ _ _ _ (search rules) c.loop-reads.invariant c.read_more.ensures c.progress-1.given.1
+
+pub returns : goal.returns
+returns c = file_broken _ _ _ c.loop-reads.invariant c.report-2.ensures

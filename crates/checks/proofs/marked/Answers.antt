@@ -1,0 +1,25 @@
+use borrow.Author.Rules.{rules}
+use Prim.Native.Nat.{◌≤◌, ◌-◌, ◌/◌}
+use mathlib.Core.Path.{◌≡◌}
+use mathlib.Core.Logic.{inl, inr, ⊎_elim}
+use native.Mathlib.Omega.{arith}
+use lib.ListN.{length}
+use Rattle.definition.specs.Limits.{record_length, most_records}
+use Rattle.checks.proofs.Reading.{Counting, counting_start, counting_next, counting_end}
+use Rattle.checks.proofs.marked.Goals as goal
+
+pub loop-i-init : goal.loop-i-init
+loop-i-init c = (search rules, search rules, λ e h. counting_start _)
+
+pub returns-then-i-ge-MOST_RECORDS : goal.returns-then-i-ge-MOST_RECORDS
+returns-then-i-ge-MOST_RECORDS c = λ e h. absurd (omega (arith, c.if-i-ge-MOST_RECORDS.true, c.loop-i-test.true))
+
+pub loop-i-preserved : goal.loop-i-preserved
+loop-i-preserved c = (
+  search rules,
+  ⊎_elim (λ w. omega arith) (λ w. omega arith) c.if-x-eq1.branch,
+  λ e h. counting_next (c.loop-i.invariant.2 e h) (omega (arith, c.loop-i-test.true)) c.if-i-ge-MOST_RECORDS.false _ c.record_at-x.ensures.0 _ (⊎_elim (λ w. inl (w.0.taken, w.1)) (λ w. inr (w.0.left, w.1)) c.if-x-eq1.branch),
+)
+
+pub returns : goal.returns
+returns c = λ e h. counting_end (c.loop-i.invariant.2 e h) (omega (arith, c.loop-i-test.false))

@@ -1,0 +1,16 @@
+use borrow.Author.Rules.{rules}
+use Prim.Native.Nat.{◌≤◌, ◌-◌, ◌/◌}
+use mathlib.Core.Path.{◌≡◌}
+use mathlib.Core.Logic.{inl, inr, ⊎_elim}
+use native.Mathlib.Omega.{arith}
+use lib.ListN.{length}
+use Rattle.definition.specs.Limits.{record_length, most_records}
+use Rattle.checks.proofs.Reading.{Counting, counting_start, counting_next, counting_end}
+use Rattle.checks.proofs.marked.Given as goal
+
+-- After i turns n is how many of the first i records are marked.
+abbrev pub invariant-loop-i : goal.invariant-loop-i
+invariant-loop-i l = (l.i ≤ l.count) × (l.n ≤ l.i) × (l.count ≡ length l.branch / record_length → l.count ≤ most_records → Counting l.branch l.n l.i)
+
+abbrev pub decreases-loop-i : goal.decreases-loop-i
+decreases-loop-i l = l.count - l.i

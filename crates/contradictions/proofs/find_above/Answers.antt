@@ -1,0 +1,32 @@
+use borrow.Author.Rules.{rules}
+use mathlib.Core.Path.{◌≡◌, refl, ◌∙◌}
+use mathlib.Core.List.{List}
+use Prim.Native.Nat.{◌≤◌, ◌-◌}
+use lib.ListN.{length}
+use Rattle.definition.specs.Limits.{most_formulas}
+use Rattle.definition.specs.Records.{Rec, formula_of}
+use Rattle.definition.specs.Tree.{Node, node_at}
+use Rattle.formula.specs.Recorded.{Recorded}
+use Rattle.semantics.specs.Literal.{Claims}
+use Rattle.tree.specs.Lay.{Lays}
+use Rattle.contradictions.proofs.Search.{Seeking, seeking_start, seeking_none, seeking_next, seeking_end}
+use Rattle.contradictions.proofs.find_above.Goals as goal
+
+pub loop-k-init : goal.loop-k-init
+loop-k-init c = λ rs ns s p b e z. (c.world_of-world.ensures ns z, seeking_start rs ns _ _ _ _ _ e z.fits (c.parent_of-cur.ensures ns z) refl refl)
+
+pub returns-then-is_none : goal.returns-then-is_none
+returns-then-is_none c = λ rs ns s p b e z.
+    c.pair_with.ensures ∙ seeking_none rs ns _ (c.loop-k.invariant rs ns s p b e z).1 c.is_none.ensures c.if-is_none.true
+
+pub loop-k-preserved : goal.loop-k-preserved
+loop-k-preserved c = λ rs ns s p b e z.
+    let node = c in
+    let inv = node.before.before.loop.invariant rs ns s p b e z in (
+      inv.0,
+      seeking_next rs ns _ inv.1 _ _ node.before.loop-test.true node.is_none.ensures c.if-is_none.false
+          (c.are_nodes_contradictory-hit.ensures rs ns _ s inv.0 p b z) c.latest-last.ensures (c.parent_of-cur-in-loop-k.ensures ns z),
+    )
+
+pub returns : goal.returns
+returns c = λ rs ns s p b e z. c.pair_with-2.ensures ∙ seeking_end rs ns _ (c.loop-k.invariant rs ns s p b e z).1 c.loop-k-test.false

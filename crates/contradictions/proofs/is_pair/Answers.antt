@@ -1,0 +1,11 @@
+use borrow.Author.Rules.{rules}
+use Rattle.definition.specs.Contradiction.{is_pair}
+use Rattle.contradictions.proofs.is_pair.Goals as goal
+
+pub returns-in-None : goal.returns-in-None
+unfolding is_pair
+returns-in-None c = rw c.enum_told-1.given.1
+
+pub returns-in-Between : goal.returns-in-Between
+unfolding is_pair
+returns-in-Between c = rw c.enum_told-in-Between-1.given.1

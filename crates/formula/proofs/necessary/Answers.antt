@@ -1,0 +1,7 @@
+use Rattle.definition.specs.Records.{kind_of}
+use borrow.Author.Rules.{rules}
+use Rattle.formula.proofs.necessary.Goals as goal
+
+pub returns : goal.returns
+unfolding kind_of
+returns c = λ rs p. c.push_record.ensures rs p

@@ -1,0 +1,16 @@
+use Prim.Native.Nat.{◌*◌, ◌-◌, ◌≤◌}
+use Rattle.frames.specs.Line.{line_length}
+use Rattle.frames.specs.Lines.{lines_below, answers_of}
+use Rattle.frames.specs.Put.{Put}
+use Rattle.frames.proofs.Frames.{lines_none, lines_next, lines_all}
+use borrow.Author.Rules.{rules}
+use Rattle.frames.proofs.lines.Goals as goal
+
+pub loop-flags-init : goal.loop-flags-init
+loop-flags-init c = (lines_none _ _, search rules, search rules)
+
+pub loop-flags-preserved : goal.loop-flags-preserved
+loop-flags-preserved c = (lines_next (answers_of _) _ c.loop-flags.invariant.0 c.put_frame-at.ensures.0, search rules, search rules)
+
+pub returns : goal.returns
+returns c = lines_all _ _ c.loop-flags.invariant.0 (search rules)

@@ -1,0 +1,15 @@
+use mathlib.Core.Path.{◌≡◌}
+use Prim.Native.Nat.{◌-◌, ◌≤◌}
+use borrow.Author.Rules.{rules}
+use lib.ListN.{length}
+use Rattle.frames.proofs.Texts.{Copied, copy_start, copy_next, copied_all}
+use Rattle.frames.proofs.put.Goals as goal
+
+pub loop-i-init : goal.loop-i-init
+loop-i-init c = (search rules, copy_start _ _ _, search rules)
+
+pub loop-i-preserved : goal.loop-i-preserved
+loop-i-preserved c = (search rules, copy_next (search rules) (search rules) c.loop-i.invariant.1, search rules)
+
+pub returns : goal.returns
+returns c = copied_all (search rules) (search rules) c.loop-i.invariant.1

@@ -1,0 +1,9 @@
+use mathlib.Core.Path.{refl}
+use Rattle.definition.specs.Trays.{zero_trays}
+use Rattle.frames.proofs.Frames.{put_answer}
+use borrow.Author.Rules.{rules}
+use Rattle.frames.proofs.put_frame.Goals as goal
+
+pub returns : goal.returns
+unfolding zero_trays
+returns c = (put_answer _ _ _ _ c.prove-answer.ensures.answers refl c.put_line.ensures.0, search rules)

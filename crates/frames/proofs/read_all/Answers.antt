@@ -1,0 +1,21 @@
+use mathlib.Core.Path.{◌≡◌, subst}
+use lib.ListN.{length}
+use Rattle.frames.specs.Window.{Windowed, ReadsMore}
+use Rattle.frames.proofs.Windows.{windowed_none}
+use borrow.Author.Rules.{rules}
+use Rattle.frames.proofs.read_all.Goals as goal
+
+pub loop-reads-init : goal.loop-reads-init
+loop-reads-init c = (windowed_none _ (search rules), search rules)
+
+pub returns-in-Failed : goal.returns-in-Failed
+returns-in-Failed c = tt
+
+pub returns-in-Ended : goal.returns-in-Ended
+returns-in-Ended c = subst (ReadsMore _ _) c.enum_told-in-Ended-1.given.1 c.read_more.ensures
+
+pub loop-reads-preserved : goal.loop-reads-preserved
+loop-reads-preserved c = (subst (ReadsMore _ _) c.now-1.given.1 c.read_more.ensures, search rules)
+
+pub returns : goal.returns
+returns c = tt

@@ -1,0 +1,12 @@
+use borrow.Author.Rules.{rules}
+use native.Mathlib.Omega.{arith}
+use Prim.Native.Nat.{◌-◌}
+use lib.ListN.{length}
+use Rattle.lexer.proofs.Scanning.{Sofar, start, next, moved, unreadable, short, whole}
+use Rattle.lexer.proofs.scan_tokens.Given as goal
+
+abbrev pub invariant-loop-followed : goal.invariant-loop-followed
+invariant-loop-followed l = Sofar l.text l.initial.tokens l.tokens l.at l.count l.wants l.depth
+
+abbrev pub decreases-loop-followed : goal.decreases-loop-followed
+decreases-loop-followed l = length l.text - l.at

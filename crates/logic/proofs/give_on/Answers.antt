@@ -1,0 +1,41 @@
+use borrow.Author.Rules.{rules}
+use borrow.Author.Rules.{rules}
+use Prim.Native.Nat.{ℕ, ◌≤◌, ◌-◌}
+use mathlib.Core.Path.{◌≡◌}
+use mathlib.Core.List.{List, [], ◌++◌}
+use mathlib.Core.Option.{Option}
+use native.Mathlib.Omega.{arith}
+use lib.ListN.{length, drop}
+use Rattle.definition.specs.Limits.{most_identifiers}
+use Rattle.arrays.specs.Listed.{Listed}
+use Rattle.arrays.proofs.Listed.{listed_count}
+use Rattle.bits.specs.Worlds.{worlds_in}
+use Rattle.definition.specs.Lists.{Each}
+use Rattle.definition.specs.Tree.{Node, path}
+use Rattle.definition.specs.Modality.{Necessity, Fork, occurs, give_on}
+use Rattle.tree.specs.Lay.{Held}
+use Rattle.subtree.specs.Items.{Item, Listing}
+use Rattle.modality.specs.Seen.{Seen}
+use Rattle.logic.proofs.Listings.{listing_one}
+use Rattle.logic.proofs.Giving.{Giving, giving_start, giving_entry, giving_ends, seen_entry}
+use Rattle.logic.proofs.give_on.Goals as goal
+
+pub loop-j-init : goal.loop-j-init
+loop-j-init c = (search rules, λ t more fk n ls rs s f l k seen h i. giving_start t fk n _ more ls rs h i)
+
+pub loop-j-preserved : goal.loop-j-preserved
+loop-j-preserved c = (
+  search rules,
+  λ t more fk n ls rs s f l k seen h i.
+      let g = c.loop-j.invariant.1 t more fk n ls rs s f l k seen h i in
+      let up = c.loop-j-test.true in
+      let leaf = c.nth.ensures.0 ls _ l k in
+      giving_entry t fk n _ ls l k up leaf s f g
+      (c.give_on_leaf-given.ensures.1 (t ++ g.more) (occurs t fk (path t c.nth.result)) (seen_entry t fk ls _ c.loop-j.j _ _ seen (omega (arith, up, listed_count l k)) leaf c.word_at-word.ensures))
+      (λ rs' rows small. let drawn = c.give_on_leaf-given.ensures.0 small in listing_one _ drawn (c.push_item.ensures rs' _ _ rows drawn)),
+)
+
+pub returns : goal.returns
+returns c = λ t more fk n ls rs s f l k seen h i.
+    let e = giving_ends t fk n _ ls {j = c.loop-j.j} l k (omega (arith, c.loop-j-test.false)) (c.loop-j.invariant.1 t more fk n ls rs s f l k seen h i) in
+    record { nodes = e.0; rows = e.1 }

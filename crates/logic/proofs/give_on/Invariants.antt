@@ -1,0 +1,31 @@
+use borrow.Author.Rules.{rules}
+use borrow.Author.Rules.{rules}
+use Prim.Native.Nat.{ℕ, ◌≤◌, ◌-◌}
+use mathlib.Core.Path.{◌≡◌}
+use mathlib.Core.List.{List, [], ◌++◌}
+use mathlib.Core.Option.{Option}
+use native.Mathlib.Omega.{arith}
+use lib.ListN.{length, drop}
+use Rattle.definition.specs.Limits.{most_identifiers}
+use Rattle.arrays.specs.Listed.{Listed}
+use Rattle.arrays.proofs.Listed.{listed_count}
+use Rattle.bits.specs.Worlds.{worlds_in}
+use Rattle.definition.specs.Lists.{Each}
+use Rattle.definition.specs.Tree.{Node, path}
+use Rattle.definition.specs.Modality.{Necessity, Fork, occurs, give_on}
+use Rattle.tree.specs.Lay.{Held}
+use Rattle.subtree.specs.Items.{Item, Listing}
+use Rattle.modality.specs.Seen.{Seen}
+use Rattle.logic.proofs.Listings.{listing_one}
+use Rattle.logic.proofs.Giving.{Giving, giving_start, giving_entry, giving_ends, seen_entry}
+use Rattle.logic.proofs.give_on.Given as goal
+
+-- What is given so far and what the paths that are left still give is all that is to be given; each turn gives on one path.
+abbrev pub invariant-loop-j : goal.invariant-loop-j
+invariant-loop-j l = (l.j ≤ l.k) ×
+    ((t more : List Node) (fk : Option Fork) (n : Necessity) (ls : List ℕ) (rs : List Item) → n.spawner ≡ l.spawner.0 → n.formula ≡ l.formula.0 →
+    Listed ls l.k l.on → l.k ≤ most_identifiers → Each (Seen t fk l.seen) ls → Held (t ++ more) l.initial.here.nodes l.initial.nodes → (l.initial.here.nodes ≤ most_identifiers → Listing rs [] l.initial.here.listed l.initial.here.nodes l.initial.items) →
+    Giving t fk n (worlds_in l.worlds) (drop l.j ls) ((t ++ more) ++ (give_on t fk n (worlds_in l.worlds) (length (t ++ more)) ls).nodes) rs (give_on t fk n (worlds_in l.worlds) (length (t ++ more)) ls).subtrees l.here.nodes l.nodes l.here.listed l.items)
+
+abbrev pub decreases-loop-j : goal.decreases-loop-j
+decreases-loop-j l = l.k - l.j

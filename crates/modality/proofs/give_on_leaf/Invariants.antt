@@ -1,0 +1,24 @@
+use borrow.Author.Rules.{rules}
+use Prim.Native.Nat.{ℕ, ◌<◌, ◌^◌}
+use mathlib.Core.Path.{◌≡◌}
+use mathlib.Core.Bool.{Bool}
+use mathlib.Core.List.{List, ◌++◌, map}
+use native.Mathlib.Omega.{arith}
+use borrow.Author.Rules.{rules}
+use Rattle.bits.specs.Bits.{bit_of}
+use Rattle.bits.specs.Worlds.{worlds_in}
+use Rattle.bits.proofs.Worlds.{worlds_first}
+use Rattle.definition.specs.Lists.{filter}
+use Rattle.definition.specs.Tree.{Node, new_node}
+use Rattle.tree.specs.Chain.{DrawnFrom}
+use Rattle.tree.specs.Lay.{Held}
+use Rattle.tree.proofs.Chains.{drawn_none}
+use Rattle.modality.proofs.Give.{worlds_both, Making, make_start, make_next, make_end}
+use Rattle.modality.proofs.give_on_leaf.Given as goal
+
+-- The nodes made so far and those that the rest of the worlds still give are all that is to be given; each turn makes the first of the rest.
+abbrev pub invariant-loop-rest : goal.invariant-loop-rest
+invariant-loop-rest l = (l.rest < 2 ^ 32) × DrawnFrom l.len l.given × ((ns : List Node) (p : ℕ → Bool) → ((v : ℕ) → v < 32 → bit_of l.here v ≡ p v) → Held ns l.len l.initial.nodes → Making (new_node l.spawner.0 l.formula.0) (ns ++ map (new_node l.spawner.0 l.formula.0) (filter p (worlds_in l.worlds))) l.rest l.given.len l.nodes)
+
+abbrev pub decreases-loop-rest : goal.decreases-loop-rest
+decreases-loop-rest l = l.rest

@@ -1,0 +1,20 @@
+use borrow.Author.Rules.{rules}
+use Prim.Native.Nat.{◌-◌}
+use mathlib.Core.Path.{◌≡◌, ◌∙◌}
+use mathlib.Core.List.{List}
+use Rattle.definition.specs.Lists.{any}
+use Rattle.definition.specs.Tree.{Node, upward, path}
+use Rattle.definition.specs.Modality.{Necessity, runs_through}
+use Rattle.tree.proofs.Paths.{climb_start, climb_none, climb_hit, climb_miss, climb_end}
+use Rattle.necessities.specs.Stored.{InRow}
+use Rattle.modality.specs.Stands.{Stands}
+use Rattle.modality.proofs.Lists.{runs_by_path}
+use Rattle.modality.proofs.Before.{stored}
+use Rattle.modality.proofs.path_runs_through.Given as goal
+
+-- At every turn what is left of the path has a stored leaf just if the whole path has one.
+abbrev pub invariant-loop-j : goal.invariant-loop-j
+invariant-loop-j l = (t : List Node) (n : Necessity) → Stands t l.base l.nodes → InRow l.k n.leaves l.leaves → any (stored n) (upward (l.base - l.j) t l.cur.0) ≡ runs_through n (path t l.initial.cur.0)
+
+abbrev pub decreases-loop-j : goal.decreases-loop-j
+decreases-loop-j l = l.base - l.j

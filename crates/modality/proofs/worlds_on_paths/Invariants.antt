@@ -1,0 +1,23 @@
+use borrow.Author.Rules.{rules}
+use Prim.Native.Nat.{ℕ, ◌≤◌, ◌<◌, ◌-◌}
+use mathlib.Core.Path.{◌≡◌, refl, ◌∙◌}
+use mathlib.Core.Bool.{false}
+use mathlib.Core.List.{List}
+use lib.ListN.{length, get_or, take}
+use Rattle.definition.specs.Limits.{most_identifiers}
+use Rattle.arrays.specs.Listed.{Listed}
+use Rattle.definition.specs.Lists.{Each, elem}
+use Rattle.definition.specs.Tree.{Node}
+use Rattle.modality.specs.Stands.{Stands}
+use Rattle.modality.specs.Forking.{fork_of}
+use Rattle.modality.specs.Seen.{Seen}
+use Rattle.modality.proofs.Worlds.{seen_next, seen_end, other_next}
+use Rattle.modality.proofs.worlds_on_paths.Given as goal
+
+-- After j turns `seen` has the worlds on the path of each of the first j leaves, and the entries of all that is not listed are as they were.
+abbrev pub invariant-loop-j : goal.invariant-loop-j
+invariant-loop-j s = (s.j ≤ s.m) × ((t : List Node) (ls : List ℕ) → Stands t s.base s.nodes → Listed ls s.m s.on → s.m ≤ most_identifiers → Each (λ l. l < most_identifiers) ls → length s.initial.seen ≡ most_identifiers → (length s.seen ≡ most_identifiers) × Each (Seen t (fork_of s.forking) s.seen) (take s.j ls))
+    × ((ls : List ℕ) → Listed ls s.m s.on → s.m ≤ most_identifiers → (x : ℕ) → elem x ls ≡ false → get_or s.seen x 0 ≡ get_or s.initial.seen x 0)
+
+abbrev pub decreases-loop-j : goal.decreases-loop-j
+decreases-loop-j l = l.m - l.j

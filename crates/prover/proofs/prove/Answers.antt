@@ -1,0 +1,13 @@
+use mathlib.Core.Path.{sym, ap, ◌∙◌}
+use Rattle.checks.specs.Checked.{check_of}
+use Rattle.prover.specs.Said.{said}
+use Rattle.prover.proofs.Whole.{contract_refused}
+use borrow.Author.Rules.{rules}
+use Rattle.prover.proofs.prove.Goals as goal
+
+pub returns-in-Refused : goal.returns-in-Refused
+unfolding said
+returns-in-Refused c = contract_refused _ _ _ _ _ (ap check_of (sym c.number-1.given.1) ∙ c.check.ensures)
+
+pub returns-in-Accepted : goal.returns-in-Accepted
+returns-in-Accepted c = c.run.ensures (sym c.check.ensures ∙ ap check_of c.enum_told-1.given.1)

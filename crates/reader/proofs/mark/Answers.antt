@@ -1,0 +1,6 @@
+use native.Mathlib.Omega.{arith}
+use borrow.Author.Rules.{rules}
+use Rattle.reader.proofs.mark.Goals as goal
+
+pub returns-then-n-ge-MOST_TEXT : goal.returns-then-n-ge-MOST_TEXT
+returns-then-n-ge-MOST_TEXT c = λ h. absurd (omega (arith, h, c.if-n-ge-MOST_TEXT.true))

@@ -1,0 +1,9 @@
+use mathlib.Core.Path.{refl}
+use Rattle.definition.specs.Rules.{expansion_by}
+use Rattle.rules.proofs.RecordsMade.{expands_one}
+use borrow.Author.Rules.{rules}
+use Rattle.rules.proofs.imply.Goals as goal
+
+pub returns : goal.returns
+unfolding expansion_by
+returns c = λ rs h. expands_one _ h _ c.next_formula-non_p.ensures.0 c.non-after.ensures refl (λ m. rw m refl)

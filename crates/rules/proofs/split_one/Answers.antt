@@ -1,0 +1,11 @@
+use mathlib.Core.Path.{refl}
+use mathlib.Core.List.{[], ◌∷◌}
+use Rattle.rules.proofs.Here.{here_split}
+use borrow.Author.Rules.{rules}
+use Rattle.rules.proofs.split_one.Goals as goal
+
+pub returns : goal.returns
+returns c = λ ns h.
+    let left = c.new_node-left.ensures in
+    let right = c.new_node-right.ensures in
+    here_split _ _ h _ [] (_ ∷ []) refl left.0.id right.0.id left.1 right.1 c.with_left_right_nodes.ensures

@@ -1,0 +1,9 @@
+use mathlib.Core.Path.{refl}
+use Rattle.definition.specs.Setting.{setting_of}
+use Rattle.setting.specs.Asked.{asked}
+use borrow.Author.Rules.{rules}
+use Rattle.setting.proofs.setting_of.Goals as goal
+
+pub returns : goal.returns
+unfolding asked setting_of
+returns c = rw (c.flag.ensures, c.flag-2.ensures, c.flag-3.ensures, c.flag-4.ensures) refl

@@ -1,0 +1,23 @@
+use Prim.Native.Nat.{ℕ, ◌≤◌, ◌-◌}
+use mathlib.Core.List.{List}
+use lib.ListN.{length, drop}
+use native.Mathlib.Omega.{arith}
+use Rattle.definition.specs.Limits.{most_identifiers}
+use Rattle.arrays.specs.Listed.{Listed}
+use Rattle.arrays.proofs.Listed.{listed_count}
+use Rattle.definition.specs.Tree.{Node}
+use Rattle.definition.specs.Subtree.{append_copies}
+use Rattle.tree.specs.Lay.{Held}
+use Rattle.subtree.specs.Subtree.{subtree_of, Within}
+use Rattle.subtree.proofs.Placing.{Copying, copies_start, copies_next, copies_end}
+use borrow.Author.Rules.{rules}
+use Rattle.subtree.proofs.append_copies.Goals as goal
+
+pub loop-k-init : goal.loop-k-init
+loop-k-init c = λ ns q ls p f w i h. copies_start ns q _ _ p f
+
+pub loop-k-preserved : goal.loop-k-preserved
+loop-k-preserved c = λ ns q ls p f w i h. copies_next c.args.s ls c.loop-k.k _ (omega (arith, listed_count i h, c.loop-k-test.true)) (c.nth.ensures.0 ls _ i h) w (c.loop-k.invariant ns q ls p f w i h) c.append_copy-here.ensures
+
+pub returns : goal.returns
+returns c = λ ns q ls p f w i h. copies_end c.args.s ls c.loop-k.k (omega (arith, listed_count i h, c.loop-k-test.false)) (c.loop-k.invariant ns q ls p f w i h)

@@ -1,0 +1,23 @@
+use Prim.Native.Nat.{ℕ, ◌≤◌, ◌-◌}
+use mathlib.Core.Path.{sym, ap, subst}
+use mathlib.Core.List.{List, map}
+use lib.ListN.{length, drop}
+use native.Mathlib.Omega.{arith}
+use Rattle.definition.specs.Limits.{most_identifiers}
+use Rattle.arrays.specs.Listed.{Listed}
+use Rattle.definition.specs.Tree.{Node}
+use Rattle.definition.specs.Subtree.{append_logic_rule_result}
+use Rattle.definition.specs.TreeShape.{TreedThroughout}
+use Rattle.tree.specs.Lay.{Held}
+use Rattle.subtree.specs.Items.{Item, ItemsHeld, filled, item_from}
+use Rattle.subtree.proofs.Items.{rows_count, held_few, Joining, joining_start, joining_next, joining_end, joining_full}
+use Rattle.subtree.proofs.Placing.{left_as}
+use borrow.Author.Rules.{rules}
+use Rattle.subtree.proofs.append_logic_rule_result.Given as goal
+
+-- At every turn, placing the rows that are left gives what placing all of them gives.
+abbrev pub invariant-loop-k : goal.invariant-loop-k
+invariant-loop-k l = (ns : List Node) (q : List ℕ) (rs : List Item) → Held ns l.initial.here.nodes l.initial.nodes → (l.initial.here.nodes ≤ most_identifiers → Listed q l.n l.initial.waiting) → (l.initial.here.nodes ≤ most_identifiers → ItemsHeld rs l.count l.items (length ns)) → TreedThroughout ns q (map item_from rs) → Joining (append_logic_rule_result ns q (map item_from rs)) (drop l.k (filled rs)) (length ns) l.here l.nodes l.waiting
+
+abbrev pub decreases-loop-k : goal.decreases-loop-k
+decreases-loop-k l = l.count - l.k

@@ -1,0 +1,6 @@
+use Rattle.subtree.proofs.Subtrees.{attached}
+use borrow.Author.Rules.{rules}
+use Rattle.subtree.proofs.attach_new_ids.Goals as goal
+
+pub returns : goal.returns
+returns c = λ ns p w. attached c.args.s ns _ _ _ p w c.copy_chain-a.ensures c.copy_chain-b.ensures c.copy_chain-c.ensures

@@ -1,0 +1,17 @@
+use borrow.Author.Rules.{rules}
+use Prim.Native.Nat.{ℕ, ◌≤◌, ◌-◌}
+use mathlib.Core.Path.{◌≡◌, refl, ◌∙◌, ap}
+use mathlib.Core.List.{List, []}
+use native.Mathlib.Omega.{arith}
+use lib.ListN.{length}
+use Rattle.definition.specs.Limits.{edge_tray_length}
+use Rattle.definition.specs.Trays.{over}
+use Rattle.slices.proofs.Writing.{Zeros, written_none, padded_none, zeros_start, zeros_next, zeros_end}
+use Rattle.trays.proofs.clear_edges.Given as goal
+
+-- After each turn the bytes so far are zero, and the rest of the tray is as it was.
+abbrev pub invariant-loop-world : goal.invariant-loop-world
+invariant-loop-world l = (length l.tray ≡ length l.initial.tray) × (edge_tray_length ≤ length l.initial.tray → Zeros edge_tray_length [] l.initial.tray l.world l.tray)
+
+abbrev pub decreases-loop-world : goal.decreases-loop-world
+decreases-loop-world l = edge_tray_length - l.world

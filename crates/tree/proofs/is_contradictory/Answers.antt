@@ -1,0 +1,6 @@
+use Rattle.tree.proofs.Nodes.{marked}
+use borrow.Author.Rules.{rules}
+use Rattle.tree.proofs.is_contradictory.Goals as goal
+
+pub returns : goal.returns
+returns c = λ ns z. marked _ _ (c.contrarian_of.ensures ns z) c.is_none.ensures

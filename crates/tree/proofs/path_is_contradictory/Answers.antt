@@ -1,0 +1,25 @@
+use borrow.Author.Rules.{rules}
+use Prim.Native.Nat.{◌-◌}
+use mathlib.Core.Path.{◌≡◌}
+use mathlib.Core.List.{List}
+use lib.ListN.{length}
+use Rattle.definition.specs.Lists.{any}
+use Rattle.definition.specs.Tree.{Node, upward, path}
+use Rattle.tree.specs.Lay.{Lays}
+use Rattle.tree.proofs.Paths.{closes, climb_start, climb_none, climb_hit, climb_miss, climb_end}
+use Rattle.tree.proofs.path_is_contradictory.Goals as goal
+
+pub loop-k-init : goal.loop-k-init
+loop-k-init c = λ ns e z. climb_start ns (any (closes ns)) _ _ e
+
+pub returns-then-is_none : goal.returns-then-is_none
+returns-then-is_none c = λ ns e z. climb_none ns (any (closes ns)) _ _ _ (c.loop-k.invariant ns e z) c.is_none.ensures c.if-is_none.true
+
+pub returns-then-is_contradictory : goal.returns-then-is_contradictory
+returns-then-is_contradictory c = λ ns e z. climb_hit ns (closes ns) _ _ _ (c.loop-k.invariant ns e z) c.loop-k-test.true c.is_none.ensures c.if-is_none.false (c.is_contradictory.ensures ns z) c.if-is_contradictory.true
+
+pub loop-k-preserved : goal.loop-k-preserved
+loop-k-preserved c = λ ns e z. climb_miss ns (closes ns) _ _ _ (c.loop-k.invariant ns e z) c.loop-k-test.true c.is_none.ensures c.if-is_none.false (c.is_contradictory.ensures ns z) c.if-is_contradictory.false _ (c.parent_of-cur.ensures ns z)
+
+pub returns : goal.returns
+returns c = λ ns e z. climb_end ns (any (closes ns)) _ _ _ (c.loop-k.invariant ns e z) c.loop-k-test.false

@@ -1,0 +1,16 @@
+use borrow.Author.Rules.{rules}
+use Prim.Native.Nat.{◌-◌}
+use lib.ListN.{length}
+use Rattle.typed_cases.proofs.show_all.Goals as goal
+
+pub loop-at-init : goal.loop-at-init
+loop-at-init c = tt
+
+pub returns-then-n-gt-CASE_LENGTH : goal.returns-then-n-gt-CASE_LENGTH
+returns-then-n-gt-CASE_LENGTH c = tt
+
+pub loop-at-preserved : goal.loop-at-preserved
+loop-at-preserved c = tt
+
+pub returns : goal.returns
+returns c = tt

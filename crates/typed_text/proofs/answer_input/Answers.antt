@@ -1,0 +1,16 @@
+use mathlib.Core.Path.{subst}
+use Rattle.typed_text.specs.Showing.{Kept}
+use borrow.Author.Rules.{rules}
+use Rattle.typed_text.proofs.answer_input.Goals as goal
+
+pub answer_text-printed-requires : goal.answer_text-printed-requires
+answer_text-printed-requires c = subst (Kept _) c.seen-1.given.1 c.read_all.ensures
+
+pub returns-then-print : goal.returns-then-print
+returns-then-print c = c.answer_text-printed.ensures.shows
+
+pub returns-in-Failed : goal.returns-in-Failed
+returns-in-Failed c = tt
+
+pub returns-else-print : goal.returns-else-print
+returns-else-print c = c.answer_text-printed.ensures.shows

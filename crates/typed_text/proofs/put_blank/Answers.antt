@@ -1,0 +1,9 @@
+use Rattle.typed_text.proofs.Marks.{put_space, put_spaces}
+use borrow.Author.Rules.{rules}
+use Rattle.typed_text.proofs.put_blank.Goals as goal
+
+pub returns-then-is_plain : goal.returns-then-is_plain
+returns-then-is_plain c = put_space _ c.is_plain.ensures c.if-is_plain.true c.put.ensures
+
+pub returns : goal.returns
+returns c = put_spaces _ c.is_plain.ensures c.if-is_plain.false c.put-2.ensures

@@ -1,0 +1,13 @@
+use mathlib.Core.Bool.{true, false}
+use Rattle.typed_text.specs.Diagnosis.{reason}
+use Rattle.typed_text.proofs.Marks.{put_reason}
+use borrow.Author.Rules.{rules}
+use Rattle.typed_text.proofs.put_reason.Goals as goal
+
+pub returns-then-short : goal.returns-then-short
+unfolding reason
+returns-then-short c = put_reason true c.if-short.true c.put.ensures
+
+pub returns : goal.returns
+unfolding reason
+returns c = put_reason false c.if-short.false c.put-2.ensures

@@ -1,0 +1,23 @@
+use Rattle.definition.specs.Limits.{text_tray_length}
+use native.Mathlib.Omega.{arith}
+use Rattle.typed_text.proofs.Whole.{no_short, long_stands, offset_short, unreadable_stands, taken_room, taken_stands}
+use borrow.Author.Rules.{rules}
+use Rattle.typed_text.proofs.show.Goals as goal
+
+pub overflow_cast-at : goal.overflow_cast-at
+overflow_cast-at c = omega (arith, offset_short c.args.rules.now c.read_text-reading.new.1.0 text_tray_length c.read_text-reading.result c.read_text-reading.ensures c.reading-1.given.1)
+
+pub tray_lines-requires : goal.tray_lines-requires
+tray_lines-requires c = taken_room c.args.rules.now c.read_text-reading.new.1.0 text_tray_length c.read_text-reading.result c.read_text-reading.ensures c.reading-in-Taken-1.given.1
+
+pub returns-in-ShortTray : goal.returns-in-ShortTray
+returns-in-ShortTray c = no_short c.args.rules.now c.read_text-reading.new.1.0 text_tray_length c.read_text-reading.result c.read_text-reading.ensures c.enum_told-1.given.1 (omega arith)
+
+pub returns-in-LongText : goal.returns-in-LongText
+returns-in-LongText c = long_stands c.args.rules.now c.read_text-reading.new.1.0 text_tray_length c.read_text-reading.result c.read_text-reading.ensures c.enum_told-in-LongText-1.given.1 c.refusal_lines.ensures
+
+pub returns-in-Unreadable : goal.returns-in-Unreadable
+returns-in-Unreadable c = unreadable_stands c.args.rules.now c.read_text-reading.new.1.0 text_tray_length c.read_text-reading.result c.read_text-reading.ensures c.reading-1.given.1 c.refusal_lines-in-Unreadable.ensures
+
+pub returns-in-Taken : goal.returns-in-Taken
+returns-in-Taken c = taken_stands c.args.rules.now c.read_text-reading.new.1.0 text_tray_length c.read_text-reading.result c.read_text-reading.ensures c.reading-in-Taken-1.given.1 c.tray_lines.ensures

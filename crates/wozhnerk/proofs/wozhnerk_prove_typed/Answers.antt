@@ -1,0 +1,6 @@
+use Rattle.wozhnerk.proofs.Exported.{typed_as}
+use borrow.Author.Rules.{rules}
+use Rattle.wozhnerk.proofs.wozhnerk_prove_typed.Goals as goal
+
+pub returns : goal.returns
+returns c = typed_as c.prove_typed-x.ensures c.word.ensures
