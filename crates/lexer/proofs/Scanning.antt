@@ -5,8 +5,6 @@ use mathlib.Core.List.{List, [], ◌∷◌, ◌++◌, map, append_assoc, append-
 use mathlib.Core.Option.{Option, none, some}
 use Prim.Native.Nat.{ℕ, zero, suc, ◌+◌, ◌%◌, ◌≤◌, ◌<◌}
 use native.Mathlib.Omega.{arith}
-use types.Run.{OneOf, miss}
-use denote.Enum.Declared.{tag_of}
 use lib.Dec.{eqb}
 use lib.ListN.{length, set, replicate, length-append}
 use lib.Seq.{set_at, get_or-append_seam}
@@ -25,10 +23,7 @@ use Rattle.lexer.specs.Words.{word_of}
 use Rattle.lexer.specs.Bytes.{Known, Shown, no_more, token, not_spelled}
 use Rattle.lexer.specs.Steps.{state_of, FollowedAs}
 use Rattle.lexer.specs.declared.Word.{Word}
-use Rattle.lexer.specs.declared.Word.TheVariants as Word
 use Rattle.lexer.specs.declared.Followed.{Followed}
-use Rattle.lexer.specs.declared.Followed.TheVariants as Followed
-use Rattle.lexer.specs.contracts.Word.{the_type}
 use Rattle.lexer.proofs.Stepping.{code_by, code_by_lem}
 
 -- a known token's code is not 0, and is that of no other
@@ -114,7 +109,7 @@ start text codes = record { before = []; split = refl; goes = refl; known = tt; 
 
 -- a word that is not the end
 abbrev pub NotEnd : Word → Type 0
-NotEnd w = OneOf (1 ∷ 2 ∷ 3 ∷ 4 ∷ 5 ∷ 6 ∷ 7 ∷ []) (tag_of the_type w)
+NotEnd w = w ≡ Word.End → ⊥
 
 -- what a step from the state answers
 abbrev Answers : Word → ℕ → ℕ → Followed → Type 0
@@ -141,7 +136,7 @@ record Taken (text : List ℕ) (at start end wants depth wanted deep : ℕ) (w :
 
 taken : (text : List ℕ) (at start end wants depth wanted deep : ℕ) (w : Word) → Shown text at start end w → NotEnd w → Answers w wants depth (Followed.To wanted deep) → Taken text at start end wants depth wanted deep w
 unfolding word_of
-taken text at start end wants depth wanted deep _ (no_more a b) n f = absurd (miss (1 ∷ 2 ∷ 3 ∷ 4 ∷ 5 ∷ 6 ∷ 7 ∷ []) 0 tt n)
+taken text at start end wants depth wanted deep _ (no_more a b) n f = absurd (n refl)
 taken text at start end wants depth wanted deep _ (token t k l m i) n f = record { token_is = t; word_is = refl; known = k; next = l; moves = m; inside = i; steps = (f t refl).0; shallow = (f t refl).1 }
 taken text at start end wants depth wanted deep _ (not_spelled l) n f = absurd (some_none (no_invalid (state_of wants depth)) (f invalid refl).0)
 
@@ -166,7 +161,7 @@ module _ {text begun codes : List ℕ} {at count wants depth : ℕ} (z : Sofar t
 
   refused : (start end : ℕ) (w : Word) → Shown text at start end w → NotEnd w → Answers w wants depth Followed.Refused → UnreadableAt text start
   unfolding word_of
-  refused start end _ (no_more a b) n f = absurd (miss (1 ∷ 2 ∷ 3 ∷ 4 ∷ 5 ∷ 6 ∷ 7 ∷ []) 0 tt n)
+  refused start end _ (no_more a b) n f = absurd (n refl)
   refused start end _ (token t k l m i) n f = halted (placed start t ∷ lexed text end) l (f t refl)
   refused start end _ (not_spelled l) n f = halted (placed start invalid ∷ []) l (f invalid refl)
 

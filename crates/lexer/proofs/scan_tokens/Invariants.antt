@@ -1,8 +1,6 @@
-use borrow.Author.Rules.{rules}
-use native.Mathlib.Omega.{arith}
 use Prim.Native.Nat.{◌-◌}
 use lib.ListN.{length}
-use Rattle.lexer.proofs.Scanning.{Sofar, start, next, moved, unreadable, short, whole}
+use Rattle.lexer.proofs.Scanning.{Sofar}
 use Rattle.lexer.proofs.scan_tokens.Given as goal
 
 abbrev pub invariant-loop-followed : goal.invariant-loop-followed
