@@ -21,7 +21,6 @@ use Rattle.lexer.specs.Codes.{sign_kind, joint_kind, tokens_from}
 use Rattle.definition.specs.Limits.{most_text, text_tray_length}
 use Rattle.lexer.specs.Words.{Spot, Stands}
 use Rattle.lexer.specs.declared.Word.{Word}
-use Rattle.lexer.specs.declared.Word.TheVariants as Word
 use Rattle.reader.specs.Levels.{end_of, count_of, Span, Got, Lost, Steps, Parsed, Grouped, Puts, Joins, JointAt, Closed}
 
 put_holds : (before after : List ℕ) (n kind l r : ℕ) (k : Kind) → kind ≡ number_of k → Puts before after n kind l r → n < most_text → (rs : List Rec) → length rs ≡ n → before ≡ tray_of rs → after ≡ tray_of (rs ++ (rec 0 k l r ∷ []))

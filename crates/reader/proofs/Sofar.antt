@@ -20,7 +20,6 @@ use Rattle.definition.specs.Limits.{record_length, most_text, text_tray_length}
 use Rattle.lexer.specs.Codes.{tokens_from}
 use Rattle.lexer.specs.Words.{Spot, Stands}
 use Rattle.lexer.specs.declared.Word.{Word}
-use Rattle.lexer.specs.declared.Word.TheVariants as Word
 use Rattle.lexer.proofs.Coding.{from_cons}
 use Rattle.reader.specs.Levels.{end_of, count_of, Got, Lost, Parsed, LinesRead}
 use Rattle.reader.proofs.Levels.{got_of, lost_of}

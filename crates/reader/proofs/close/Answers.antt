@@ -1,4 +1,3 @@
-use borrow.Author.Rules.{rules}
 use native.Mathlib.Omega.{arith}
 use Rattle.reader.proofs.Levels.{closing_inside, closed_there, closed_not}
 use Rattle.reader.proofs.close.Goals as goal

@@ -1,4 +1,3 @@
-use borrow.Author.Rules.{rules}
 use mathlib.Core.Path.{refl}
 use Rattle.reader.proofs.Whole.{text_taken, text_unreadable, text_long}
 use Rattle.reader.proofs.read_text.Goals as goal
