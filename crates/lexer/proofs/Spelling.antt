@@ -166,7 +166,7 @@ spelled an_opening = tt
 spelled a_closing = tt
 spelled a_newline = tt
 
--- a token that the scan finds is the next; where it finds none, a invalid one is
+-- a token that the scan finds is the next; where it finds none, an invalid one is
 shows_found : (text : List ℕ) (at : ℕ) (t : Token) (k : ℕ) → scan (drop at text) ≡ found t k → at < length text → Shown text at at (at + k) (word_of t)
 shows_found text at t k e h =
     let g = scan_sound (drop at text) t k e in

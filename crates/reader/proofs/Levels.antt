@@ -201,9 +201,6 @@ lost_sign codes at k (s, q, w) (ts, h) e = lost e (ts, subst (λ (v : List Token
 pub lost_inside : {l count : ℕ} {before after : List ℕ} {r : ℕ} (codes : List ℕ) (at : ℕ) → Spot codes at opening → Lost codes (at + 1) → r ≡ 0 → Parsed codes at l count before after r
 lost_inside codes at w (ts, h) e = lost e (ts, subst (λ (v : List Token). Fails v ts) (sym w.is) (fails_inside h))
 
-pub lost_level : {codes : List ℕ} {at l k count n : ℕ} {before after b c : List ℕ} {r : ℕ} → Parsed codes at k n b c r → r ≡ 0 → Parsed codes at l count before after 0
-lost_level h e = lost refl (lost_of h e)
-
 -- the closing bracket
 refuses_by : (codes : List ℕ) (at d : ℕ) (t : Token) → Spot codes at t → step (operator (suc d)) t ≡ none → Refuses (operator (suc d)) (tokens_from codes at)
 refuses_by codes at d t s e = subst (Refuses (operator (suc d))) (sym s.is) e
@@ -379,10 +376,6 @@ module _ {codes : List ℕ} {first l : ℕ} {begun tray : List ℕ} {left e kind
   here : Joins codes (end_of left) l kind
   here = joins_of (joint_by w x) n
 
-  -- a joint stands before the end
-  pub joint_inside : end_of left < most_text
-  joint_inside = here.spot.inside
-
   pub adding_lost : {i c : ℕ} {a b : List ℕ} {r : ℕ} → c ≡ count_of left → Parsed codes (e + 1) i c a b r → r ≡ 0 → Grouped codes first l begun b 0
   adding_lost v h z at k m before q f g =
       inl (refl, lost_later codes at k l m before tray (end_of left) (count_of left) kind (inv.goes at k m before q f g) here (lost_of (parsed_by w v h) z))
@@ -420,10 +413,6 @@ module _ {codes : List ℕ} {first l : ℕ} {begun tray : List ℕ} {left e kind
             (subst (λ (i : ℕ). Got codes (end_of left + 1) i (count_of left) tray b (end_of right) (count_of right)) (omega arith) g) p));
       }
 
--- a phrase of the level, from one of the level below
-pub grouped : (codes : List ℕ) (at l count : ℕ) (before middle after : List ℕ) (first r : ℕ) → 1 ≤ l → count ≤ at → Parsed codes at (l - 1) count before middle first → (first ≡ 0 → ⊥) → Grouped codes first l middle after r → Parsed codes at l count before after r
-grouped codes at l count before middle after first r up few h n g = g at (l - 1) count before (omega arith) few (got_of h n)
-
 -- what stands where no joint of the level does
 looser : (codes : List ℕ) (at k l : ℕ) (j : Joint) → l ≡ suc k → Spot codes at (joint j) → (level j ≡ l → ⊥) → Ends k (tokens_from codes at) → Ends l (tokens_from codes at)
 looser codes at k l j q s n e = subst (Ends l) (sym s.is) (let x : k < level j = subst (Ends k) s.is e in omega arith)
@@ -446,9 +435,3 @@ joint_other codes at l kind x (j, q, s) h n = inl (refl, λ k e. looser codes at
 
 pub joint_here : (codes : List ℕ) (at l kind x : ℕ) → Stands codes at (Word.Joint kind) → ((j : Joint) → kind ≡ joint_kind j → x ≡ level j) → x ≡ l → JointAt codes at l kind
 joint_here codes at l kind x (j, q, s) h e = inr (record { which = j; kind_is = q; level_is = sym (h j q) ∙ e; spot = s })
-
-pub parsed_level : {codes : List ℕ} {at l k count : ℕ} {before after : List ℕ} {r : ℕ} → k ≡ l → Parsed codes at k count before after r → Parsed codes at l count before after r
-parsed_level {codes} {at} {count = count} {before = before} {after = after} {r = r} q = subst (λ (i : ℕ). Parsed codes at i count before after r) q
-
-pub sign_inside : {codes : List ℕ} {at k : ℕ} → Stands codes at (Word.Sign k) → at < most_text
-sign_inside (s, q, w) = w.inside
