@@ -20,9 +20,10 @@ use Rattle.grammar.proofs.Automaton.{runs_append}
 use Rattle.grammar.proofs.Texts.{tokens_append, scan_unreadable}
 use Rattle.lexer.specs.Codes.{first_name, sign_kind, joint_kind, code_of, token_of, tokens_within, tokens_from}
 use Rattle.lexer.specs.Words.{word_of}
-use Rattle.lexer.specs.Bytes.{Known, Shown, no_more, token, not_spelled}
+use Rattle.lexer.specs.Bytes.{Known, Shown, no_more, token, not_spelled, Shows}
 use Rattle.lexer.specs.Steps.{state_of, FollowedAs}
 use Rattle.lexer.specs.declared.Word.{Word}
+use Rattle.lexer.specs.declared.Next.{Next}
 use Rattle.lexer.specs.declared.Followed.{Followed}
 use Rattle.lexer.proofs.Stepping.{code_by, code_by_lem}
 
@@ -123,6 +124,10 @@ no_invalid (operator d) = refl
 some_none : {s : State} {o : Option State} → o ≡ none → o ≡ some s → ⊥
 some_none {s} {o} e f = let z : ◌≡◌ {A = ℕ} 0 1 = cc in omega arith
 
+-- a text that ends at `at` while more is wanted can't go on at its end
+abbrev pub EndsShort : List ℕ → ℕ → ℕ → Type 0
+EndsShort text at wants = (n : Next) → Shows text at n → n.word ≡ Word.End → (wants ≡ 0 → ⊥) → UnreadableAt text (length text)
+
 -- the token that is followed
 record Taken (text : List ℕ) (at start end wants depth wanted deep : ℕ) (w : Word) : Type 0 where
   token_is : Token
@@ -170,8 +175,8 @@ module _ {text begun codes : List ℕ} {at count wants depth : ℕ} (z : Sofar t
   unreadable {start} {end} {w} h n f e = refused start end w h n (subst (λ (v : Followed). Answers w wants depth v) e f)
 
   -- the text ends short
-  pub short : {start end : ℕ} {w : Word} → Shown text at start end w → w ≡ Word.End → (wants ≡ 0 → ⊥) → UnreadableAt text (length text)
-  short {start} {end} {w} h e n = halted [] (ended text at start end w h e) (unfinished wants depth n)
+  pub short : EndsShort text at wants
+  short n h e m = halted [] (ended text at n.start n.end n.word h e) (unfinished wants depth m)
 
   -- the text ends where a line begins
   pub whole : {start end : ℕ} {w : Word} → Shown text at start end w → w ≡ Word.End → wants ≡ 0 → begun ≡ replicate most_text 0 → (tokens_from codes 0 ≡ tokens_of (lexed text 0)) × (run fresh (tokens_from codes 0) ≡ some fresh)
