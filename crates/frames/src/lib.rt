@@ -351,7 +351,7 @@ fn answer_input<R: Read, W: Write, E: Write>(
 {
     match read_all(input, kept) {
         Input::Failed => {
-            report(errors, b"standard input cannot be read\n");
+            write_error(errors, b"standard input cannot be read\n");
             Ran::ReadFailed
         }
         Input::Seen { seen } => {
@@ -359,15 +359,16 @@ fn answer_input<R: Read, W: Write, E: Write>(
             if print(output, text, printed) {
                 return Ran::Done { seen, printed };
             }
-            report(errors, b"standard output cannot be written\n");
+            write_error(errors, b"standard output cannot be written\n");
             Ran::WriteFailed { seen, printed }
         }
     }
 }
 
 // How many words the program was started with, its own name among them: 1, or 2 for all that are more.
-pub fn words<E: Env>(env: &E) -> usize
-    ensures { (1 ≤ result) × (result ≤ 2) }
+pub fn word_count<E: Env>(env: &E) -> usize
+    ensures low { 1 ≤ result }
+    ensures high { result ≤ 2 }
 {
     match env.arg(1, &mut []) {
         Err(FillError::NotPresent) => 1,
@@ -391,7 +392,7 @@ pub fn run<R: Read, W: Write, E: Write>(
     ensures runs { words ≤ 1 → Runs kept.new text.new result }
 {
     if 1 < words {
-        report(
+        write_error(
             errors,
             b"no arguments are taken: records come on standard input (README.md)\n",
         );

@@ -5,7 +5,7 @@ fn main(rt: HostRuntime) {
     let mut kept = [0u8; frames::KEPT_LENGTH];
     let mut text = [0u8; frames::TEXT_LENGTH];
     frames::run(
-        frames::words(&rt),
+        frames::word_count(&rt),
         &mut rt.stdin(),
         &mut rt.stdout(),
         &mut rt.stderr(),
