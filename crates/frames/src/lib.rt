@@ -334,7 +334,7 @@ pub fn print<W: Write>(output: &mut W, text: &[u8], printed: usize) -> bool
 }
 
 // Writes a message; an error is let go, since there is nowhere left to report it.
-pub fn report<E: Write>(errors: &mut E, message: &[u8]) {
+pub fn write_error<E: Write>(errors: &mut E, message: &[u8]) {
     let _ = errors.write_all(message);
 }
 
