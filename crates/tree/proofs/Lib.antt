@@ -3,4 +3,3 @@ pub mod Nodes
 pub mod Chains
 pub mod Paths
 pub mod Sequence
-pub mod Walk

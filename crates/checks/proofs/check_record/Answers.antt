@@ -11,17 +11,12 @@ returns-then-is_stray c = rw (kind_known c.args.x c.if-x-gt8.false, ← c.is_str
 
 pub returns-then-links_forward : goal.returns-then-links_forward
 returns-then-links_forward c =
-    let b = c in
-    rw (kind_known b.before.before.before.before.args.x b.before.before.if1.false, ← b.before.is-stray.ensures, b.if2.false, ← c.links_forward.ensures, c.if-links_forward.true) c.refusal-then-links_forward.ensures
+    rw (kind_known c.args.x c.if-x-gt8.false, ← c.is_stray.ensures, c.if-is_stray.false, ← c.links_forward.ensures, c.if-links_forward.true) c.refusal-then-links_forward.ensures
 
 pub returns-then-size-gt-MOST_SIZE : goal.returns-then-size-gt-MOST_SIZE
 returns-then-size-gt-MOST_SIZE c =
-    let f = c in
-    let b = f.before in
-    rw (kind_known b.before.before.before.before.args.x b.before.before.if1.false, ← b.before.is-stray.ensures, b.if2.false, ← f.links-forward.ensures, c.if-links_forward.false, lt-ltb _ _ c.if-size-gt-MOST_SIZE.true) c.refusal-then-size-gt-MOST_SIZE.ensures
+    rw (kind_known c.args.x c.if-x-gt8.false, ← c.is_stray.ensures, c.if-is_stray.false, ← c.links_forward.ensures, c.if-links_forward.false, lt-ltb _ _ c.if-size-gt-MOST_SIZE.true) c.refusal-then-size-gt-MOST_SIZE.ensures
 
 pub returns : goal.returns
 returns c =
-    let f = c in
-    let b = f.before in
-    rw (kind_known b.before.before.before.before.args.x b.before.before.if1.false, ← b.before.is-stray.ensures, b.if2.false, ← f.links-forward.ensures, c.if-links_forward.false, le-ltb _ _ c.if-size-gt-MOST_SIZE.false) c.accepted.ensures
+    rw (kind_known c.args.x c.if-x-gt8.false, ← c.is_stray.ensures, c.if-is_stray.false, ← c.links_forward.ensures, c.if-links_forward.false, le-ltb _ _ c.if-size-gt-MOST_SIZE.false) c.accepted.ensures

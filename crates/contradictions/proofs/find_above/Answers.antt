@@ -21,10 +21,9 @@ returns-then-is_none c = λ rs ns s p b e z.
 
 pub loop-k-preserved : goal.loop-k-preserved
 loop-k-preserved c = λ rs ns s p b e z.
-    let node = c in
-    let inv = node.before.before.loop.invariant rs ns s p b e z in (
+    let inv = c.loop-k.invariant rs ns s p b e z in (
       inv.0,
-      seeking_next rs ns _ inv.1 _ _ node.before.loop-test.true node.is_none.ensures c.if-is_none.false
+      seeking_next rs ns _ inv.1 _ _ c.loop-k-test.true c.is_none.ensures c.if-is_none.false
           (c.are_nodes_contradictory-hit.ensures rs ns _ s inv.0 p b z) c.latest-last.ensures (c.parent_of-cur-in-loop-k.ensures ns z),
     )
 

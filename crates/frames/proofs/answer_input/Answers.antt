@@ -6,10 +6,10 @@ use borrow.Author.Rules.{rules}
 use Rattle.frames.proofs.answer_input.Goals as goal
 
 pub lines_of-printed-requires : goal.lines_of-printed-requires
-lines_of-printed-requires c = windowed_counts (subst (Reads _) c.seen-1.given.1 c.read_all.ensures)
+lines_of-printed-requires c = windowed_counts (subst (Reads _) c.in-Seen.is c.read_all.ensures)
 
 pub returns-then-print : goal.returns-then-print
-returns-then-print c = printed (subst (Reads _) c.seen-1.given.1 c.read_all.ensures) c.lines_of-printed.ensures.1
+returns-then-print c = printed (subst (Reads _) c.in-Seen.is c.read_all.ensures) c.lines_of-printed.ensures.1
 
 pub returns-else-print : goal.returns-else-print
-returns-else-print c = printed (subst (Reads _) c.seen-1.given.1 c.read_all.ensures) c.lines_of-printed.ensures.1
+returns-else-print c = printed (subst (Reads _) c.in-Seen.is c.read_all.ensures) c.lines_of-printed.ensures.1

@@ -12,10 +12,10 @@ pub returns-in-Failed : goal.returns-in-Failed
 returns-in-Failed c = tt
 
 pub returns-in-Ended : goal.returns-in-Ended
-returns-in-Ended c = subst (ReadsMore _ _) c.enum_told-in-Ended-1.given.1 c.read_more.ensures
+returns-in-Ended c = subst (ReadsMore _ _) c.in-Ended.is c.read_more.ensures
 
 pub loop-reads-preserved : goal.loop-reads-preserved
-loop-reads-preserved c = (subst (ReadsMore _ _) c.now-1.given.1 c.read_more.ensures, search rules)
+loop-reads-preserved c = (subst (ReadsMore _ _) c.in-Seen.is c.read_more.ensures, search rules)
 
 pub returns : goal.returns
 returns c = tt

@@ -15,22 +15,22 @@ pub follow-followed-requires : goal.follow-followed-requires
 follow-followed-requires c = omega (arith, c.loop-followed.invariant.shallow, c.loop-followed.invariant.few, c.loop-followed.invariant.inside, c.requires)
 
 pub returns-in_default-followed : goal.returns-in_default-followed
-returns-in_default-followed c = (c.requires, unreadable c.loop-followed.invariant c.next_token-next.ensures c.in_default.keys2 c.follow-followed.ensures c.enum_told-in_default-followed-1.given.1)
+returns-in_default-followed c = (c.requires, unreadable c.loop-followed.invariant c.next_token-next.ensures c.in_default.in_default-own.keys2 c.follow-followed.ensures c.in_default-followed.is)
 
 pub bounds-tokens-count : goal.bounds-tokens-count
-bounds-tokens-count c = omega (arith, moved c.loop-followed.invariant c.next_token-next.ensures c.in_default.keys2 c.follow-followed.ensures c.followed-1.given.1, c.requires)
+bounds-tokens-count c = omega (arith, moved c.loop-followed.invariant c.next_token-next.ensures c.in_default.in_default-own.keys2 c.follow-followed.ensures c.in-To.is, c.requires)
 
 pub overflow_add-count : goal.overflow_add-count
-overflow_add-count c = omega (arith, moved c.loop-followed.invariant c.next_token-next.ensures c.in_default.keys2 c.follow-followed.ensures c.followed-1.given.1, c.requires)
+overflow_add-count c = omega (arith, moved c.loop-followed.invariant c.next_token-next.ensures c.in_default.in_default-own.keys2 c.follow-followed.ensures c.in-To.is, c.requires)
 
 pub loop-followed-smaller : goal.loop-followed-smaller
-loop-followed-smaller c = omega (arith, moved c.loop-followed.invariant c.next_token-next.ensures c.in_default.keys2 c.follow-followed.ensures c.followed-1.given.1)
+loop-followed-smaller c = omega (arith, moved c.loop-followed.invariant c.next_token-next.ensures c.in_default.in_default-own.keys2 c.follow-followed.ensures c.in-To.is)
 
 pub loop-followed-preserved : goal.loop-followed-preserved
-loop-followed-preserved c = next c.loop-followed.invariant c.next_token-next.ensures c.in_default.keys2 c.follow-followed.ensures c.followed-1.given.1 c.code_of.ensures c.requires
+loop-followed-preserved c = next c.loop-followed.invariant c.next_token-next.ensures c.in_default.in_default-own.keys2 c.follow-followed.ensures c.in-To.is c.code_of.ensures c.requires
 
 pub returns-then-wants-ne-WANTS_LINE : goal.returns-then-wants-ne-WANTS_LINE
-returns-then-wants-ne-WANTS_LINE c = (c.requires, short c.loop-followed.invariant c.next_token-next.ensures c.enum_told-1.given.1 c.if-wants-ne-WANTS_LINE.true)
+returns-then-wants-ne-WANTS_LINE c = (c.requires, short c.loop-followed.invariant c.next_token-next.ensures c.in-End.is c.if-wants-ne-WANTS_LINE.true)
 
 pub returns-in-loop-followed : goal.returns-in-loop-followed
-returns-in-loop-followed c = (c.requires, whole c.loop-followed.invariant c.next_token-next.ensures c.enum_told-1.given.1 c.if-wants-ne-WANTS_LINE.false)
+returns-in-loop-followed c = (c.requires, whole c.loop-followed.invariant c.next_token-next.ensures c.in-End.is c.if-wants-ne-WANTS_LINE.false)

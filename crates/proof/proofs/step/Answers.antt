@@ -12,14 +12,14 @@ pub returns-in-None : goal.returns-in-None
 returns-in-None c = λ s reached kp.
     let d = due reached kp (sym (c.stops.ensures _ s _ kp) ∙ c.if-stops.false) in
     let got = c.pop.ensures _ s.formulas s.nodes s.waiting d.laid.waiting d.laid.classes d.few in
-    absurd (never_none _ s d.goes (sym got.0 ∙ c.enum_told-1.given.1))
+    absurd (never_none _ s d.goes (sym got.0 ∙ c.in-None.is))
 
 pub returns-in-Node : goal.returns-in-Node
 returns-in-Node c = λ s reached kp.
     let d = due reached kp (sym (c.stops.ensures _ s _ kp) ∙ c.if-stops.false) in
     let l = d.laid in
     let got = c.pop.ensures _ s.formulas s.nodes s.waiting l.waiting l.classes d.few in
-    let t = taken_of _ _ _ (sym got.0 ∙ c.id-1.given.1) in
+    let t = taken_of _ _ _ (sym got.0 ∙ c.in-Node.is) in
     let waiting = took s.waiting _ _ t.0 t.1 t.2 got.1 in
     let classes = took_classes (D.get_node_priority _ s.formulas s.nodes) s.waiting _ _ t.0 t.1 t.2 got.2 in
     let f = c.formula_of.ensures s.nodes (record { fits = d.ready.nodes; laid = l.nodes }) in

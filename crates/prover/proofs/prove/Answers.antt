@@ -7,7 +7,7 @@ use Rattle.prover.proofs.prove.Goals as goal
 
 pub returns-in-Refused : goal.returns-in-Refused
 unfolding said
-returns-in-Refused c = contract_refused _ _ _ _ _ (ap check_of (sym c.number-1.given.1) ∙ c.check.ensures)
+returns-in-Refused c = contract_refused _ _ _ _ _ (ap check_of (sym c.in-Refused.is) ∙ c.check.ensures)
 
 pub returns-in-Accepted : goal.returns-in-Accepted
-returns-in-Accepted c = c.run.ensures (sym c.check.ensures ∙ ap check_of c.enum_told-1.given.1)
+returns-in-Accepted c = c.run.ensures (sym c.check.ensures ∙ ap check_of c.in-Accepted.is)

@@ -10,10 +10,10 @@ pub loop-records-init : goal.loop-records-init
 loop-records-init c = reading_start c.args.tokens.now c.args.records.now c.requires
 
 pub phrase-step-requires : goal.phrase-step-requires
-phrase-step-requires c = omega (arith, c.loop-records.invariant.few, line_inside c.args.tokens.now c.loop-records.at c.word_at-word.result c.word_at-word.ensures c.in_default.keys2)
+phrase-step-requires c = omega (arith, c.loop-records.invariant.few, line_inside c.args.tokens.now c.loop-records.at c.word_at-word.result c.word_at-word.ensures c.in_default.in_default-own.keys2)
 
 pub returns-then-step-eq-NO_PHRASE : goal.returns-then-step-eq-NO_PHRASE
-returns-then-step-eq-NO_PHRASE c = lines_lost c.args.tokens.now _ _ c.loop-records.at c.loop-records.count c.phrase-step.result _ c.word_at-word.result c.loop-records.invariant c.word_at-word.ensures c.in_default.keys2 c.phrase-step.ensures c.if-step-eq-NO_PHRASE.true
+returns-then-step-eq-NO_PHRASE c = lines_lost c.args.tokens.now _ _ c.loop-records.at c.loop-records.count c.phrase-step.result _ c.word_at-word.result c.loop-records.invariant c.word_at-word.ensures c.in_default.in_default-own.keys2 c.phrase-step.ensures c.if-step-eq-NO_PHRASE.true
 
 pub overflow_sub-count : goal.overflow_sub-count
 overflow_sub-count c = omega (arith, c.count_of-count.ensures, (bounds c.phrase-step.ensures c.if-step-eq-NO_PHRASE.false).some)
@@ -28,4 +28,4 @@ pub loop-records-preserved : goal.loop-records-preserved
 loop-records-preserved c = reading_next c.args.tokens.now _ _ _ c.loop-records.at c.loop-records.count c.phrase-step.result c.count_of-count.result c.end_of-at.result c.loop-records.invariant c.phrase-step.ensures c.if-step-eq-NO_PHRASE.false c.count_of-count.ensures c.end_of-at.ensures c.mark.ensures
 
 pub returns-in-loop-records : goal.returns-in-loop-records
-returns-in-loop-records c = lines_end c.args.tokens.now _ c.loop-records.at c.loop-records.count c.loop-records.invariant (stands_as _ _ c.word_at-word.result _ c.word_at-word.ensures c.enum_told-1.given.1)
+returns-in-loop-records c = lines_end c.args.tokens.now _ c.loop-records.at c.loop-records.count c.loop-records.invariant (stands_as _ _ c.word_at-word.result _ c.word_at-word.ensures c.in-End.is)

@@ -4,10 +4,10 @@ use Rattle.reader.proofs.Whole.{text_taken, text_unreadable, text_long}
 use Rattle.reader.proofs.read_text.Goals as goal
 
 pub returns-in-TooLong : goal.returns-in-TooLong
-returns-in-TooLong c = text_long c.args.text.now _ _ c.args.tray.now c.scan-scanned.result c.if-tray-lt-TEXT_TRAY_LENGTH.false c.scan-scanned.ensures c.enum_told-1.given.1
+returns-in-TooLong c = text_long c.args.text.now _ _ c.args.tray.now c.scan-scanned.result c.if-tray-lt-TEXT_TRAY_LENGTH.false c.scan-scanned.ensures c.in-TooLong.is
 
 pub returns-in-Unreadable : goal.returns-in-Unreadable
-returns-in-Unreadable c = text_unreadable c.args.text.now _ _ c.args.tray.now c.scan-scanned.result c.scanned-1.given.0.0 c.if-tray-lt-TEXT_TRAY_LENGTH.false c.scan-scanned.ensures c.scanned-1.given.1
+returns-in-Unreadable c = text_unreadable c.args.text.now _ _ c.args.tray.now c.scan-scanned.result c.in-Unreadable.at c.if-tray-lt-TEXT_TRAY_LENGTH.false c.scan-scanned.ensures c.in-Unreadable.is
 
 pub returns-in-Taken : goal.returns-in-Taken
-returns-in-Taken c = text_taken c.args.text.now _ _ c.args.tray.now _ c.scan-scanned.result c.write_lines-count.result c.if-tray-lt-TEXT_TRAY_LENGTH.false c.scan-scanned.ensures c.enum_told-in-Taken-1.given.1 refl c.write_lines-count.ensures
+returns-in-Taken c = text_taken c.args.text.now _ _ c.args.tray.now _ c.scan-scanned.result c.write_lines-count.result c.if-tray-lt-TEXT_TRAY_LENGTH.false c.scan-scanned.ensures c.in-Taken.is refl c.write_lines-count.ensures

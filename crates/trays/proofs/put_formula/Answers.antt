@@ -6,22 +6,14 @@ use Rattle.trays.proofs.put_formula.Goals as goal
 
 pub returns : goal.returns
 returns c = λ rs p h b.
-    let d3 = c in
-    let d2 = d3.before.before.before.before in
-    let d1 = d2.before.before.before.before in
-    let d0 = d1.before.before.before.before.before in
-    let right = d0.before.before.before in
-    let left = right.before in
-    let mark = left.before in
-    let kind = mark.before in
-    let x = rec_at rs kind.before.before.args.f.0 in
+    let x = rec_at rs c.args.f.0 in
     puts_as
     (record_bytes_lem x
-    (low_same d0.before.low.ensures (kind.kind_at.ensures rs p h) (number_low x.kind))
-    (low_same d1.before.low2.ensures (mark.mark-at.ensures rs p h) b)
-    (left.left_at.ensures rs p h)
-    (right.right-at.ensures rs p h))
-    (puts_then d0.put.ensures.0
-    (puts_then d1.put2.ensures.0
-    (puts_then d2.put_two.ensures.0
-    d3.put-two2.ensures.0)))
+    (low_same c.low.ensures (c.kind_at-kind.ensures rs p h) (number_low x.kind))
+    (low_same c.low-2.ensures (c.mark_at-mark.ensures rs p h) b)
+    (c.left_at-left.ensures rs p h)
+    (c.right_at-right.ensures rs p h))
+    (puts_then c.put-a.ensures.0
+    (puts_then c.put-b.ensures.0
+    (puts_then c.put_two-c.ensures.0
+    c.put_two.ensures.0)))

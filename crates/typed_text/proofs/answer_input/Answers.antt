@@ -4,7 +4,7 @@ use borrow.Author.Rules.{rules}
 use Rattle.typed_text.proofs.answer_input.Goals as goal
 
 pub answer_text-printed-requires : goal.answer_text-printed-requires
-answer_text-printed-requires c = subst (Kept _) c.seen-1.given.1 c.read_all.ensures
+answer_text-printed-requires c = subst (Kept _) c.in-Seen.is c.read_all.ensures
 
 pub returns-then-print : goal.returns-then-print
 returns-then-print c = c.answer_text-printed.ensures.shows

@@ -7,6 +7,5 @@ returns-then-nodes-at c = no_node _ _ _ _ c.if-nodes-at.true
 
 pub returns : goal.returns
 returns c =
-    let world = c in
-    a_node _ _ _ world.before.before.before.if1.false world.before.before.link.ensures world.before.small.ensures world.small2.ensures
+    a_node _ _ _ c.if-nodes-at.false c.link-parent.ensures c.small-place.ensures c.small-world.ensures
     c.two.ensures.0 c.formula_or_comment-written.ensures c.add.ensures c.link-spawner.ensures c.link.ensures

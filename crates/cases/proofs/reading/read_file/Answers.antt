@@ -12,7 +12,7 @@ pub returns-in-Ended : goal.returns-in-Ended
 returns-in-Ended c = file_whole _ _ _ c.loop-reads.invariant
 
 pub loop-reads-preserved : goal.loop-reads-preserved
-loop-reads-preserved c = begun_next _ _ _ _ _ (search rules) c.loop-reads.invariant c.read_more.ensures c.progress-1.given.1
+loop-reads-preserved c = begun_next _ _ _ _ _ (search rules) c.loop-reads.invariant c.read_more.ensures c.in-Read.is
 
 pub returns : goal.returns
 returns c = file_broken _ _ _ c.loop-reads.invariant c.report-2.ensures
