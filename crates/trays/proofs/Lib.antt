@@ -1,4 +1,2 @@
 pub mod Bytes
 pub mod Numbers
-pub mod Again
-pub mod Walks

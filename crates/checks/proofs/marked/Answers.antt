@@ -1,12 +1,13 @@
 use borrow.Author.Rules.{rules}
 use Prim.Native.Nat.{◌≤◌, ◌-◌, ◌/◌}
 use mathlib.Core.Path.{◌≡◌}
-use mathlib.Core.Logic.{inl, inr, ⊎_elim}
+use mathlib.Core.Logic.{inl, inr}
 use native.Mathlib.Omega.{arith}
 use lib.ListN.{length}
 use Rattle.definition.specs.Limits.{record_length, most_records}
 use Rattle.checks.proofs.Reading.{Counting, counting_start, counting_next, counting_end}
 use Rattle.checks.proofs.marked.Goals as goal
+use Rattle.checks.proofs.marked.Goals.{then-x-eq1, else-x-eq1}
 
 pub loop-i-init : goal.loop-i-init
 loop-i-init c = (search rules, search rules, λ e h. counting_start _)
@@ -17,8 +18,8 @@ returns-then-i-ge-MOST_RECORDS c = λ e h. absurd (omega (arith, c.if-i-ge-MOST_
 pub loop-i-preserved : goal.loop-i-preserved
 loop-i-preserved c = (
   search rules,
-  ⊎_elim (λ w. omega arith) (λ w. omega arith) c.if-x-eq1.branch,
-  λ e h. counting_next (c.loop-i.invariant.2 e h) (omega (arith, c.loop-i-test.true)) c.if-i-ge-MOST_RECORDS.false _ c.record_at-x.ensures.0 _ (⊎_elim (λ w. inl (w.0.taken, w.1)) (λ w. inr (w.0.left, w.1)) c.if-x-eq1.branch),
+  elim c.if-x-eq1.branch [ then-x-eq1 w ↦ omega arith | else-x-eq1 w ↦ omega arith ],
+  λ e h. counting_next (c.loop-i.invariant.2 e h) (omega (arith, c.loop-i-test.true)) c.if-i-ge-MOST_RECORDS.false _ c.record_at-x.ensures.0 _ (elim c.if-x-eq1.branch [ then-x-eq1 w ↦ inl (w.if-x-eq1.true, w.n-is) | else-x-eq1 w ↦ inr (w.if-x-eq1.false, w.n-is) ]),
 )
 
 pub returns : goal.returns
