@@ -155,8 +155,8 @@ fn check(
 // The state before any step: contradictions are checked once, unless they are skipped.
 pub fn begin(setting: Setting, p: Progress, formulas: &Formulas, nodes: &mut Nodes) -> Progress
     ensures { (s : State) (edges necessities leaves waiting classes : List ℕ) → p.formulas ≤ most_formulas → CheckedAt s.formulas s.nodes 0
-        → StateLaid (asked setting) s p (record { formulas = formulas.entry.now; nodes = nodes.old; edges = edges; necessities = necessities; leaves = leaves; waiting = waiting; classes = classes })
-        → StateHeld (asked setting) (check_for_contradictions (asked setting) s) result (record { formulas = formulas.entry.now; nodes = nodes.new; edges = edges; necessities = necessities; leaves = leaves; waiting = waiting; classes = classes }) }
+        → StateLaid (asked setting) s p (record { formulas = formulas.now; nodes = nodes.old; edges = edges; necessities = necessities; leaves = leaves; waiting = waiting; classes = classes })
+        → StateHeld (asked setting) (check_for_contradictions (asked setting) s) result (record { formulas = formulas.now; nodes = nodes.new; edges = edges; necessities = necessities; leaves = leaves; waiting = waiting; classes = classes }) }
 {
     let mut checked = p;
     checked.proved = check(setting, p.proved, formulas, p.formulas, nodes, p.nodes, 0);
@@ -176,8 +176,8 @@ fn step(
     classes: &mut Classes,
 ) -> Progress
     ensures { (s : State) → Reached (asked setting) s
-        → StateHeld (asked setting) s p (record { formulas = formulas.entry.now; nodes = nodes.old; edges = edges.old; necessities = necessities.old; leaves = leaves.old; waiting = waiting.old; classes = classes.old })
-        → StateHeld (asked setting) (run 1 (asked setting) s) result (record { formulas = formulas.exit.now; nodes = nodes.new; edges = edges.new; necessities = necessities.new; leaves = leaves.new; waiting = waiting.new; classes = classes.new }) }
+        → StateHeld (asked setting) s p (record { formulas = formulas.old; nodes = nodes.old; edges = edges.old; necessities = necessities.old; leaves = leaves.old; waiting = waiting.old; classes = classes.old })
+        → StateHeld (asked setting) (run 1 (asked setting) s) result (record { formulas = formulas.new; nodes = nodes.new; edges = edges.new; necessities = necessities.new; leaves = leaves.new; waiting = waiting.new; classes = classes.new }) }
 {
     if stops(p) {
         return p;
@@ -227,8 +227,8 @@ pub fn prove(
     classes: &mut Classes,
 ) -> Progress
     ensures { (s : State) → Reached (asked setting) s
-        → StateHeld (asked setting) s begun (record { formulas = formulas.entry.now; nodes = nodes.old; edges = edges.old; necessities = necessities.old; leaves = leaves.old; waiting = waiting.old; classes = classes.old })
-        → StateHeld (asked setting) (run enough_steps (asked setting) s) result (record { formulas = formulas.exit.now; nodes = nodes.new; edges = edges.new; necessities = necessities.new; leaves = leaves.new; waiting = waiting.new; classes = classes.new }) }
+        → StateHeld (asked setting) s begun (record { formulas = formulas.old; nodes = nodes.old; edges = edges.old; necessities = necessities.old; leaves = leaves.old; waiting = waiting.old; classes = classes.old })
+        → StateHeld (asked setting) (run enough_steps (asked setting) s) result (record { formulas = formulas.new; nodes = nodes.new; edges = edges.new; necessities = necessities.new; leaves = leaves.new; waiting = waiting.new; classes = classes.new }) }
 {
     let mut p = begun;
     let mut n: usize = 0;

@@ -63,8 +63,8 @@ fn begin(
     classes: &mut Classes,
 ) -> Progress
     ensures { (edges necessities leaves : List ℕ) → length branch.now / record_length ≤ most_records → empty (marks (decode branch.now)) ≡ false → length (marks (decode branch.now)) ≤ most_marked
-        → Recorded [] 0 formulas.entry.now → Held [] 0 nodes.old → Listed [] 0 waiting.old → Listed [] 0 classes.old → Drawn empty_graph 0 edges → Stack [] 0 necessities leaves
-        → StateHeld (asked setting) (start (asked setting) (decode branch.now)) result (record { formulas = formulas.exit.now; nodes = nodes.new; edges = edges; necessities = necessities; leaves = leaves; waiting = waiting.new; classes = classes.new }) }
+        → Recorded [] 0 formulas.old → Held [] 0 nodes.old → Listed [] 0 waiting.old → Listed [] 0 classes.old → Drawn empty_graph 0 edges → Stack [] 0 necessities leaves
+        → StateHeld (asked setting) (start (asked setting) (decode branch.now)) result (record { formulas = formulas.new; nodes = nodes.new; edges = edges; necessities = necessities; leaves = leaves; waiting = waiting.new; classes = classes.new }) }
 {
     let count = read_records(branch, formulas);
     let len = begin_tree(formulas, count, nodes);
@@ -116,7 +116,7 @@ fn finish(
     edge_tray: &mut [u32],
 ) -> Answer
     ensures { (F : D.Setting) (s : State) (necessities leaves waiting classes : List ℕ)
-        → StateHeld F s p (record { formulas = formulas.entry.now; nodes = nodes.now; edges = edges.now; necessities = necessities; leaves = leaves; waiting = waiting; classes = classes }) → Ends s
+        → StateHeld F s p (record { formulas = formulas.now; nodes = nodes.now; edges = edges.now; necessities = necessities; leaves = leaves; waiting = waiting; classes = classes }) → Ends s
         → LongEnough (lengths_of (trays node_tray.old formula_tray.old edge_tray.old))
         → (said result ≡ answer_of F (outcome_of_run s))
         × (trays node_tray.new formula_tray.new edge_tray.new ≡ trays_after (outcome_of_run s) (trays node_tray.old formula_tray.old edge_tray.old)) }
