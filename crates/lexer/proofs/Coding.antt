@@ -13,7 +13,6 @@ use Rattle.grammar.specs.Tokens.{Token, name, sign, joint, opening, closing, new
 use Rattle.lexer.specs.Codes.{first_name, token_of, tokens_within, tokens_from, fixed_tokens}
 use Rattle.lexer.specs.Words.{Spot, Stands, Codes, Coded}
 use Rattle.lexer.specs.declared.Word.{Word}
-use Rattle.lexer.specs.declared.Word.TheVariants as Word
 
 pub codes : (c n : ℕ) (t : Token) → c ≡ n → (n ≡ 0 → ⊥) → token_of n ≡ t → Codes c t
 codes c n t e h q = record { some = λ z. h (sym e ∙ z); is = ap token_of e ∙ q }
@@ -22,17 +21,9 @@ pub codes_name : (c : ℕ) → first_name ≤ c → Codes c (name (c % first_nam
 unfolding token_of
 codes_name c h = record { some = λ z. omega arith; is = rw (le-leb first_name c h) }
 
-next : (c n : ℕ) → n ≤ c → (c ≡ n → ⊥) → suc n ≤ c
-next c n h k = omega arith
-
-least : (c : ℕ) → (c ≡ 0 → ⊥) → 1 ≤ c
-least c k = omega arith
-
-pub codes_invalid : (c : ℕ) → c < first_name → ((((((((((((Unit {0} × (c ≡ 0 → ⊥)) × (c ≡ 1 → ⊥)) × (c ≡ 2 → ⊥)) × (c ≡ 3 → ⊥)) × (c ≡ 4 → ⊥)) × (c ≡ 5 → ⊥)) × (c ≡ 6 → ⊥)) × (c ≡ 7 → ⊥)) × (c ≡ 8 → ⊥)) × (c ≡ 9 → ⊥)) × (c ≡ 10 → ⊥)) × (c ≡ 11 → ⊥)) → Codes c invalid
+pub codes_invalid : (c : ℕ) → c < first_name → 12 ≤ c → Codes c invalid
 unfolding token_of
-codes_invalid c h ((((((((((((_, k₀), k₁), k₂), k₃), k₄), k₅), k₆), k₇), k₈), k₉), k₁₀), k₁₁) =
-    let m = next c 11 (next c 10 (next c 9 (next c 8 (next c 7 (next c 6 (next c 5 (next c 4 (next c 3 (next c 2 (next c 1 (least c k₀) k₁) k₂) k₃) k₄) k₅) k₆) k₇) k₈) k₉) k₁₀) k₁₁ in
-    record { some = k₀; is = rw (lt-leb first_name c h) (get_or-eq_default fixed_tokens invalid m) }
+codes_invalid c h m = record { some = λ z. omega arith; is = rw (lt-leb first_name c h) (get_or-eq_default fixed_tokens invalid m) }
 
 pub ends_at : (codes : List ℕ) (at : ℕ) → most_text ≤ at → tokens_from codes at ≡ []
 unfolding tokens_within

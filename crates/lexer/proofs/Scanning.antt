@@ -5,8 +5,6 @@ use mathlib.Core.List.{List, [], ◌∷◌, ◌++◌, map, append_assoc, append-
 use mathlib.Core.Option.{Option, none, some}
 use Prim.Native.Nat.{ℕ, zero, suc, ◌+◌, ◌%◌, ◌≤◌, ◌<◌}
 use native.Mathlib.Omega.{arith}
-use types.Run.{OneOf, miss}
-use denote.Enum.Declared.{tag_of}
 use lib.Dec.{eqb}
 use lib.ListN.{length, set, replicate, length-append}
 use lib.Seq.{set_at, get_or-append_seam}
@@ -22,13 +20,11 @@ use Rattle.grammar.proofs.Automaton.{runs_append}
 use Rattle.grammar.proofs.Texts.{tokens_append, scan_unreadable}
 use Rattle.lexer.specs.Codes.{first_name, sign_kind, joint_kind, code_of, token_of, tokens_within, tokens_from}
 use Rattle.lexer.specs.Words.{word_of}
-use Rattle.lexer.specs.Bytes.{Known, Shown, no_more, token, not_spelled}
+use Rattle.lexer.specs.Bytes.{Known, Shown, no_more, token, not_spelled, Shows}
 use Rattle.lexer.specs.Steps.{state_of, FollowedAs}
 use Rattle.lexer.specs.declared.Word.{Word}
-use Rattle.lexer.specs.declared.Word.TheVariants as Word
+use Rattle.lexer.specs.declared.Next.{Next}
 use Rattle.lexer.specs.declared.Followed.{Followed}
-use Rattle.lexer.specs.declared.Followed.TheVariants as Followed
-use Rattle.lexer.specs.contracts.Word.{the_type}
 use Rattle.lexer.proofs.Stepping.{code_by, code_by_lem}
 
 -- a known token's code is not 0, and is that of no other
@@ -114,7 +110,7 @@ start text codes = record { before = []; split = refl; goes = refl; known = tt; 
 
 -- a word that is not the end
 abbrev pub NotEnd : Word → Type 0
-NotEnd w = OneOf (1 ∷ 2 ∷ 3 ∷ 4 ∷ 5 ∷ 6 ∷ 7 ∷ []) (tag_of the_type w)
+NotEnd w = w ≡ Word.End → ⊥
 
 -- what a step from the state answers
 abbrev Answers : Word → ℕ → ℕ → Followed → Type 0
@@ -127,6 +123,10 @@ no_invalid (operator d) = refl
 
 some_none : {s : State} {o : Option State} → o ≡ none → o ≡ some s → ⊥
 some_none {s} {o} e f = let z : ◌≡◌ {A = ℕ} 0 1 = cc in omega arith
+
+-- a text that ends at `at` while more is wanted can't go on at its end
+abbrev pub EndsShort : List ℕ → ℕ → ℕ → Type 0
+EndsShort text at wants = (n : Next) → Shows text at n → n.word ≡ Word.End → (wants ≡ 0 → ⊥) → UnreadableAt text (length text)
 
 -- the token that is followed
 record Taken (text : List ℕ) (at start end wants depth wanted deep : ℕ) (w : Word) : Type 0 where
@@ -141,7 +141,7 @@ record Taken (text : List ℕ) (at start end wants depth wanted deep : ℕ) (w :
 
 taken : (text : List ℕ) (at start end wants depth wanted deep : ℕ) (w : Word) → Shown text at start end w → NotEnd w → Answers w wants depth (Followed.To wanted deep) → Taken text at start end wants depth wanted deep w
 unfolding word_of
-taken text at start end wants depth wanted deep _ (no_more a b) n f = absurd (miss (1 ∷ 2 ∷ 3 ∷ 4 ∷ 5 ∷ 6 ∷ 7 ∷ []) 0 tt n)
+taken text at start end wants depth wanted deep _ (no_more a b) n f = absurd (n refl)
 taken text at start end wants depth wanted deep _ (token t k l m i) n f = record { token_is = t; word_is = refl; known = k; next = l; moves = m; inside = i; steps = (f t refl).0; shallow = (f t refl).1 }
 taken text at start end wants depth wanted deep _ (not_spelled l) n f = absurd (some_none (no_invalid (state_of wants depth)) (f invalid refl).0)
 
@@ -166,7 +166,7 @@ module _ {text begun codes : List ℕ} {at count wants depth : ℕ} (z : Sofar t
 
   refused : (start end : ℕ) (w : Word) → Shown text at start end w → NotEnd w → Answers w wants depth Followed.Refused → UnreadableAt text start
   unfolding word_of
-  refused start end _ (no_more a b) n f = absurd (miss (1 ∷ 2 ∷ 3 ∷ 4 ∷ 5 ∷ 6 ∷ 7 ∷ []) 0 tt n)
+  refused start end _ (no_more a b) n f = absurd (n refl)
   refused start end _ (token t k l m i) n f = halted (placed start t ∷ lexed text end) l (f t refl)
   refused start end _ (not_spelled l) n f = halted (placed start invalid ∷ []) l (f invalid refl)
 
@@ -175,8 +175,8 @@ module _ {text begun codes : List ℕ} {at count wants depth : ℕ} (z : Sofar t
   unreadable {start} {end} {w} h n f e = refused start end w h n (subst (λ (v : Followed). Answers w wants depth v) e f)
 
   -- the text ends short
-  pub short : {start end : ℕ} {w : Word} → Shown text at start end w → w ≡ Word.End → (wants ≡ 0 → ⊥) → UnreadableAt text (length text)
-  short {start} {end} {w} h e n = halted [] (ended text at start end w h e) (unfinished wants depth n)
+  pub short : EndsShort text at wants
+  short n h e m = halted [] (ended text at n.start n.end n.word h e) (unfinished wants depth m)
 
   -- the text ends where a line begins
   pub whole : {start end : ℕ} {w : Word} → Shown text at start end w → w ≡ Word.End → wants ≡ 0 → begun ≡ replicate most_text 0 → (tokens_from codes 0 ≡ tokens_of (lexed text 0)) × (run fresh (tokens_from codes 0) ≡ some fresh)

@@ -1,4 +1,4 @@
--- What the functions end_of_line the bytes find, end_of_line the contracts of their callees.
+-- What the functions on the bytes find, on the contracts of their callees.
 use mathlib.Core.Path.{◌≡◌, refl, sym, ap, subst, ◌∙◌}
 use mathlib.Core.Bool.{Bool, true, false, cond, ◌&&◌}
 use mathlib.Core.List.{List, [], ◌∷◌}
@@ -18,7 +18,6 @@ use Rattle.grammar.proofs.Lexed.{scan_sound, scan_lost, spells_some, lexes_at, l
 use Rattle.lexer.specs.Words.{word_of}
 use Rattle.lexer.specs.Bytes.{Known, Shown, no_more, token, not_spelled, Shows, fixed_if, fixed_by, FixedIs, well_begun_by, Numbered}
 use Rattle.lexer.specs.declared.Word.{Word}
-use Rattle.lexer.specs.declared.Word.TheVariants as Word
 use Rattle.lexer.specs.declared.Next.{Next}
 use Rattle.lexer.specs.declared.Fixed.{Fixed}
 use Rattle.lexer.specs.declared.Digits.{Digits}
@@ -27,7 +26,7 @@ use Rattle.lexer.specs.declared.Digits.{Digits}
 pub no_byte : (text : List ℕ) (i : ℕ) → length text ≤ i → get_or text i 0 ≡ 0
 no_byte text i h = get_or-eq_default text 0 h
 
--- a space is passed end_of_line
+-- a space is passed on
 pub space_next : (text : List ℕ) (i : ℕ) → i < length text → get_or text i 0 ≡ 32 → lexed text i ≡ lexed text (i + 1)
 space_next text i h e =
     let d : 32 ∷ drop (suc i) text ≡ drop i text = ap (λ (x : ℕ). x ∷ drop (suc i) text) (sym e) ∙ sym (drop-cons text i 0 h) in
@@ -146,9 +145,9 @@ angle_other b c n = rw (ne_eqb b 45 n) (ends (eqb b 62) (found (sign Diamond) 2)
 pub angle_at : (a b c : ℕ) (r : Fixed) → a ≡ 60 → FixedIs 60 b c r → FixedIs a b c r
 angle_at a b c r e h = subst (λ (v : ℕ). FixedIs v b c r) (sym e) h
 
-pub no_first : (a b c : ℕ) (r : Fixed) → ((((((((((Unit {0} × (a ≡ 126 → ⊥)) × (a ≡ 38 → ⊥)) × (a ≡ 124 → ⊥)) × (a ≡ 40 → ⊥)) × (a ≡ 41 → ⊥)) × (a ≡ 10 → ⊥)) × (a ≡ 91 → ⊥)) × (a ≡ 45 → ⊥)) × (a ≡ 61 → ⊥)) × (a ≡ 60 → ⊥)) → r ≡ fixed_if true Word.Invalid 1 → FixedIs a b c r
+pub no_first : (a b c : ℕ) (r : Fixed) → (a ≡ 126 → ⊥) → (a ≡ 38 → ⊥) → (a ≡ 124 → ⊥) → (a ≡ 40 → ⊥) → (a ≡ 41 → ⊥) → (a ≡ 10 → ⊥) → (a ≡ 91 → ⊥) → (a ≡ 45 → ⊥) → (a ≡ 61 → ⊥) → (a ≡ 60 → ⊥) → r ≡ fixed_if true Word.Invalid 1 → FixedIs a b c r
 unfolding word_of
-no_first a b c r ((((((((((_, h₁), h₂), h₃), h₄), h₅), h₆), h₇), h₈), h₉), h) e =
+no_first a b c r h₁ h₂ h₃ h₄ h₅ h₆ h₇ h₈ h₉ h e =
     hit a b c r false invalid 1 e
     (rw (ne_eqb a 126 h₁, ne_eqb a 38 h₂, ne_eqb a 124 h₃, ne_eqb a 40 h₄, ne_eqb a 41 h₅, ne_eqb a 10 h₆, ne_eqb a 91 h₇, ne_eqb a 45 h₈, ne_eqb a 61 h₉, ne_eqb a 60 h)) (omega arith)
 
@@ -167,7 +166,7 @@ spelled an_opening = tt
 spelled a_closing = tt
 spelled a_newline = tt
 
--- a token that the scan finds is the next; where it finds none, a invalid one is
+-- a token that the scan finds is the next; where it finds none, an invalid one is
 shows_found : (text : List ℕ) (at : ℕ) (t : Token) (k : ℕ) → scan (drop at text) ≡ found t k → at < length text → Shown text at at (at + k) (word_of t)
 shows_found text at t k e h =
     let g = scan_sound (drop at text) t k e in

@@ -1,12 +1,9 @@
--- Tokens as words, and the automaton's steps end_of_line them.
+-- Tokens as words, and the automaton's steps on them.
 use mathlib.Core.Path.{◌≡◌, refl, sym, ap, subst, ◌∙◌}
-use mathlib.Core.List.{List, [], ◌∷◌}
 use mathlib.Core.Option.{Option, none, some}
 use Prim.Native.Nat.{ℕ, zero, suc, ◌+◌, ◌-◌, ◌≤◌, ◌<◌}
 use native.Mathlib.Omega.{arith}
 use native.Mathlib.Numerals.{add-one}
-use types.Run.{OneOf, miss}
-use denote.Enum.Declared.{tag_of}
 use borrow.Author.Tests.{ne_eqb}
 use Rattle.grammar.specs.Tokens.{Token, name, sign, joint, opening, closing, newline, invalid}
 use Rattle.grammar.specs.Automaton.{State, operand, operator, begins, goes_on, out_of, step, end_of_line}
@@ -14,10 +11,7 @@ use Rattle.lexer.specs.Codes.{code_of, first_name}
 use Rattle.lexer.specs.Words.{word_of}
 use Rattle.lexer.specs.Steps.{state_of, FollowedAs}
 use Rattle.lexer.specs.declared.Word.{Word}
-use Rattle.lexer.specs.declared.Word.TheVariants as Word
 use Rattle.lexer.specs.declared.Followed.{Followed}
-use Rattle.lexer.specs.declared.Followed.TheVariants as Followed
-use Rattle.lexer.specs.contracts.Word.{the_type}
 
 -- what the words say of their tokens
 abbrev pub code_by : Word → ℕ
@@ -90,32 +84,26 @@ begins_as d w v r e h t q = subst (λ (o : Option State). FollowedAs o d r) (ap 
 pub goes_as : (d : ℕ) (w v : Word) (r : Followed) → w ≡ v → FollowedAs (goes_by d v) d r → (t : Token) → w ≡ word_of t → FollowedAs (goes_on d t) d r
 goes_as d w v r e h t q = subst (λ (o : Option State). FollowedAs o d r) (ap (goes_by d) (sym e ∙ q) ∙ goes_by_lem d t) h
 
--- the words that are refused, by their numbers
-abbrev refused_first : List ℕ
-refused_first = 0 ∷ 3 ∷ 5 ∷ 6 ∷ 7 ∷ []
+-- the words that are refused
+pub begins_none : (d : ℕ) (w : Word) → ((a : ℕ) → w ≡ Word.Name a → ⊥) → ((k : ℕ) → w ≡ Word.Sign k → ⊥) → (w ≡ Word.Opening → ⊥) → begins_by d w ≡ none
+begins_none d Word.End n s o = refl
+begins_none d (Word.Name a) n s o = absurd (n a refl)
+begins_none d (Word.Sign k) n s o = absurd (s k refl)
+begins_none d (Word.Joint k) n s o = refl
+begins_none d Word.Opening n s o = absurd (o refl)
+begins_none d Word.Closing n s o = refl
+begins_none d Word.Newline n s o = refl
+begins_none d Word.Invalid n s o = refl
 
-abbrev refused_after : List ℕ
-refused_after = 0 ∷ 1 ∷ 2 ∷ 4 ∷ 7 ∷ []
-
-pub begins_none : (d : ℕ) (w : Word) → OneOf refused_first (tag_of the_type w) → begins_by d w ≡ none
-begins_none d Word.End k = refl
-begins_none d (Word.Name a) k = absurd (miss refused_first 1 tt k)
-begins_none d (Word.Sign s) k = absurd (miss refused_first 2 tt k)
-begins_none d (Word.Joint j) k = refl
-begins_none d Word.Opening k = absurd (miss refused_first 4 tt k)
-begins_none d Word.Closing k = refl
-begins_none d Word.Newline k = refl
-begins_none d Word.Invalid k = refl
-
-pub goes_none : (d : ℕ) (w : Word) → OneOf refused_after (tag_of the_type w) → goes_by d w ≡ none
-goes_none d Word.End k = refl
-goes_none d (Word.Name a) k = refl
-goes_none d (Word.Sign s) k = refl
-goes_none d (Word.Joint j) k = absurd (miss refused_after 3 tt k)
-goes_none d Word.Opening k = refl
-goes_none d Word.Closing k = absurd (miss refused_after 5 tt k)
-goes_none d Word.Newline k = absurd (miss refused_after 6 tt k)
-goes_none d Word.Invalid k = refl
+pub goes_none : (d : ℕ) (w : Word) → ((k : ℕ) → w ≡ Word.Joint k → ⊥) → (w ≡ Word.Closing → ⊥) → (w ≡ Word.Newline → ⊥) → goes_by d w ≡ none
+goes_none d Word.End j c l = refl
+goes_none d (Word.Name a) j c l = refl
+goes_none d (Word.Sign k) j c l = refl
+goes_none d (Word.Joint k) j c l = absurd (j k refl)
+goes_none d Word.Opening j c l = refl
+goes_none d Word.Closing j c l = absurd (c refl)
+goes_none d Word.Newline j c l = absurd (l refl)
+goes_none d Word.Invalid j c l = refl
 
 -- brackets
 pub deeper : (d : ℕ) → FollowedAs (some (operand (suc d))) d (Followed.To 1 (d + 1))

@@ -6,7 +6,6 @@ use Rattle.grammar.specs.Lexing.{placed, value}
 use Rattle.grammar.specs.Scan.{Scan, found, lost, table, first_hit, digits_of, lexed}
 use Rattle.lexer.specs.Words.{word_of}
 use Rattle.lexer.specs.declared.Word.{Word}
-use Rattle.lexer.specs.declared.Word.TheVariants as Word
 use Rattle.lexer.specs.declared.Next.{Next}
 use Rattle.lexer.specs.declared.Fixed.{Fixed}
 use Rattle.lexer.specs.declared.Digits.{Digits}

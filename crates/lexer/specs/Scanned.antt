@@ -8,7 +8,6 @@ use Rattle.grammar.specs.Automaton.{fresh, run}
 use Rattle.grammar.specs.Reading.{UnreadableAt}
 use Rattle.lexer.specs.Codes.{tokens_from}
 use Rattle.lexer.specs.declared.Scanned.{Scanned}
-use Rattle.lexer.specs.declared.Scanned.TheVariants as Scanned
 
 -- a text above the limit; the codes of the text's tokens, in an array that was zero, which the automaton takes; or where the text can't go on
 abbrev pub ScannedAs : List ℕ → List ℕ → List ℕ → Scanned → Type 0

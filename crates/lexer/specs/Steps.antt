@@ -3,7 +3,6 @@ use Rattle.std.specs.Prelude.{◌≡◌, cond, ℕ, suc, ◌≤◌, eqb}
 use Rattle.std.proofs.Math.Option.{Option, none, some}
 use Rattle.grammar.specs.Automaton.{State, fresh, operand, operator}
 use Rattle.lexer.specs.declared.Followed.{Followed}
-use Rattle.lexer.specs.declared.Followed.TheVariants as Followed
 
 -- 0: a line begins; 1: an operand is wanted; else, what follows an operand
 unfoldable pub state_of : ℕ → ℕ → State

@@ -4,7 +4,6 @@ use Rattle.definition.specs.Limits.{most_text}
 use Rattle.grammar.specs.Tokens.{Sign, Joint, Token, name, sign, joint, opening, closing, newline, invalid}
 use Rattle.lexer.specs.Codes.{sign_kind, joint_kind, token_of, tokens_from}
 use Rattle.lexer.specs.declared.Word.{Word}
-use Rattle.lexer.specs.declared.Word.TheVariants as Word
 
 unfoldable pub word_of : Token → Word
 word_of (name a) = Word.Name a

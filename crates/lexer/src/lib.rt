@@ -366,6 +366,7 @@ fn after_closing(depth: u16) -> Followed
 }
 
 // After a newline.
+#[tactic(auto, using(crate::proofs::Stepping::over_some, crate::proofs::Stepping::over_zero))]
 fn after_newline(depth: u16) -> Followed
     ensures { FollowedAs (end_of_line depth) depth result }
 {

@@ -5,8 +5,6 @@ use mathlib.Core.Logic.{inl, inr}
 use mathlib.Core.Option.{none}
 use Prim.Native.Nat.{ℕ, suc, ◌+◌, ◌-◌, ◌≤◌, ◌<◌}
 use native.Mathlib.Omega.{arith}
-use types.Run.{OneOf, miss}
-use denote.Enum.Declared.{tag_of}
 use lib.ListN.{length, get_or, length-append}
 use Rattle.definition.specs.Formula.{Form, atom}
 use Rattle.grammar.specs.Tokens.{Sign, Tilde, Box, Diamond, Joint, Ampersand, Bar, Arrow, Double, Both, Token, name, sign, joint, opening, closing, newline, invalid, signed, joined, level, loosest, leftward, rightward, side}
@@ -23,8 +21,6 @@ use Rattle.lexer.specs.Codes.{sign_kind, joint_kind, tokens_from}
 use Rattle.definition.specs.Limits.{most_text, text_tray_length}
 use Rattle.lexer.specs.Words.{Spot, Stands}
 use Rattle.lexer.specs.declared.Word.{Word}
-use Rattle.lexer.specs.declared.Word.TheVariants as Word
-use Rattle.lexer.specs.contracts.Word.{the_type}
 use Rattle.reader.specs.Levels.{end_of, count_of, Span, Got, Lost, Steps, Parsed, Grouped, Puts, Joins, JointAt, Closed}
 
 put_holds : (before after : List ℕ) (n kind l r : ℕ) (k : Kind) → kind ≡ number_of k → Puts before after n kind l r → n < most_text → (rs : List Rec) → length rs ≡ n → before ≡ tray_of rs → after ≡ tray_of (rs ++ (rec 0 k l r ∷ []))
@@ -48,13 +44,13 @@ joint_number Arrow = refl
 joint_number Double = refl
 joint_number Both = refl
 
-pub no_kind : (kind : ℕ) → ((((Unit {0} × (kind ≡ 2 → ⊥)) × (kind ≡ 3 → ⊥)) × (kind ≡ 4 → ⊥)) × (kind ≡ 5 → ⊥)) × (kind ≡ 6 → ⊥) → (j : Joint) → kind ≡ joint_kind j → 0 ≡ level j
+pub no_kind : (kind : ℕ) → (kind ≡ 2 → ⊥) → (kind ≡ 3 → ⊥) → (kind ≡ 4 → ⊥) → (kind ≡ 5 → ⊥) → (kind ≡ 6 → ⊥) → (j : Joint) → kind ≡ joint_kind j → 0 ≡ level j
 unfolding joint_kind number_of
-no_kind kind (((((_, a), b), c), d), e) Ampersand q = absurd (a q)
-no_kind kind (((((_, a), b), c), d), e) Bar q = absurd (b q)
-no_kind kind (((((_, a), b), c), d), e) Arrow q = absurd (c q)
-no_kind kind (((((_, a), b), c), d), e) Both q = absurd (d q)
-no_kind kind (((((_, a), b), c), d), e) Double q = absurd (e q)
+no_kind kind a b c d e Ampersand q = absurd (a q)
+no_kind kind a b c d e Bar q = absurd (b q)
+no_kind kind a b c d e Arrow q = absurd (c q)
+no_kind kind a b c d e Both q = absurd (d q)
+no_kind kind a b c d e Double q = absurd (e q)
 
 joint_some : (j : Joint) → joint_kind j ≡ 0 → ⊥
 unfolding joint_kind number_of
@@ -186,18 +182,18 @@ lost e x = inl (e, x)
 none_begins : (codes : List ℕ) (at : ℕ) (ts : List Token) → tokens_from codes at ≡ ts → NoOperand ts → Lost codes at
 none_begins codes at ts e h = (ts, subst (λ (v : List Token). Fails v ts) (sym e) (fails_here ts h))
 
-pub lost_here : {l count : ℕ} {before after : List ℕ} {r : ℕ} (codes : List ℕ) (at : ℕ) (w : Word) → Stands codes at w → OneOf (0 ∷ 3 ∷ 5 ∷ 6 ∷ 7 ∷ []) (tag_of the_type w) → r ≡ 0 → Parsed codes at l count before after r
-lost_here codes at w s k e = lost e (go w k s)
+pub lost_here : {l count : ℕ} {before after : List ℕ} {r : ℕ} (codes : List ℕ) (at : ℕ) (w : Word) → Stands codes at w → ((a : ℕ) → w ≡ Word.Name a → ⊥) → ((k : ℕ) → w ≡ Word.Sign k → ⊥) → (w ≡ Word.Opening → ⊥) → r ≡ 0 → Parsed codes at l count before after r
+lost_here codes at w s n k o e = lost e (go w n k o s)
   where
-    go : (w : Word) → OneOf (0 ∷ 3 ∷ 5 ∷ 6 ∷ 7 ∷ []) (tag_of the_type w) → Stands codes at w → Lost codes at
-    go Word.End k e = none_begins codes at [] e tt
-    go (Word.Name a) k h = absurd (miss (0 ∷ 3 ∷ 5 ∷ 6 ∷ 7 ∷ []) 1 tt k)
-    go (Word.Sign s) k h = absurd (miss (0 ∷ 3 ∷ 5 ∷ 6 ∷ 7 ∷ []) 2 tt k)
-    go (Word.Joint n) k (j, q, s) = none_begins codes at (joint j ∷ tokens_from codes (at + 1)) s.is (λ d. refl)
-    go Word.Opening k h = absurd (miss (0 ∷ 3 ∷ 5 ∷ 6 ∷ 7 ∷ []) 4 tt k)
-    go Word.Closing k s = none_begins codes at (closing ∷ tokens_from codes (at + 1)) s.is (λ d. refl)
-    go Word.Newline k s = none_begins codes at (newline ∷ tokens_from codes (at + 1)) s.is (λ d. refl)
-    go Word.Invalid k s = none_begins codes at (invalid ∷ tokens_from codes (at + 1)) s.is (λ d. refl)
+    go : (w : Word) → ((a : ℕ) → w ≡ Word.Name a → ⊥) → ((k : ℕ) → w ≡ Word.Sign k → ⊥) → (w ≡ Word.Opening → ⊥) → Stands codes at w → Lost codes at
+    go Word.End n k o e = none_begins codes at [] e tt
+    go (Word.Name a) n k o h = absurd (n a refl)
+    go (Word.Sign s) n k o h = absurd (k s refl)
+    go (Word.Joint m) n k o (j, q, s) = none_begins codes at (joint j ∷ tokens_from codes (at + 1)) s.is (λ d. refl)
+    go Word.Opening n k o h = absurd (o refl)
+    go Word.Closing n k o s = none_begins codes at (closing ∷ tokens_from codes (at + 1)) s.is (λ d. refl)
+    go Word.Newline n k o s = none_begins codes at (newline ∷ tokens_from codes (at + 1)) s.is (λ d. refl)
+    go Word.Invalid n k o s = none_begins codes at (invalid ∷ tokens_from codes (at + 1)) s.is (λ d. refl)
 
 pub lost_sign : {l count : ℕ} {before after : List ℕ} {r : ℕ} (codes : List ℕ) (at k : ℕ) → Stands codes at (Word.Sign k) → Lost codes (at + 1) → r ≡ 0 → Parsed codes at l count before after r
 lost_sign codes at k (s, q, w) (ts, h) e = lost e (ts, subst (λ (v : List Token). Fails v ts) (sym w.is) (fails_sign s h))
@@ -205,20 +201,17 @@ lost_sign codes at k (s, q, w) (ts, h) e = lost e (ts, subst (λ (v : List Token
 pub lost_inside : {l count : ℕ} {before after : List ℕ} {r : ℕ} (codes : List ℕ) (at : ℕ) → Spot codes at opening → Lost codes (at + 1) → r ≡ 0 → Parsed codes at l count before after r
 lost_inside codes at w (ts, h) e = lost e (ts, subst (λ (v : List Token). Fails v ts) (sym w.is) (fails_inside h))
 
-pub lost_level : {codes : List ℕ} {at l k count n : ℕ} {before after b c : List ℕ} {r : ℕ} → Parsed codes at k n b c r → r ≡ 0 → Parsed codes at l count before after 0
-lost_level h e = lost refl (lost_of h e)
-
 -- the closing bracket
 refuses_by : (codes : List ℕ) (at d : ℕ) (t : Token) → Spot codes at t → step (operator (suc d)) t ≡ none → Refuses (operator (suc d)) (tokens_from codes at)
 refuses_by codes at d t s e = subst (Refuses (operator (suc d))) (sym s.is) e
 
-no_closing : (codes : List ℕ) (at : ℕ) (w : Word) → Stands codes at w → OneOf (0 ∷ 1 ∷ 2 ∷ 3 ∷ 4 ∷ 6 ∷ 7 ∷ []) (tag_of the_type w) → Ends loosest (tokens_from codes at) → (d : ℕ) → Refuses (operator (suc d)) (tokens_from codes at)
+no_closing : (codes : List ℕ) (at : ℕ) (w : Word) → Stands codes at w → (w ≡ Word.Closing → ⊥) → Ends loosest (tokens_from codes at) → (d : ℕ) → Refuses (operator (suc d)) (tokens_from codes at)
 no_closing codes at Word.End s k e d = subst (Refuses (operator (suc d))) (sym s) tt
 no_closing codes at (Word.Name a) s k e d = refuses_by codes at d (name a) s refl
 no_closing codes at (Word.Sign n) (x, q, s) k e d = refuses_by codes at d (sign x) s refl
 no_closing codes at (Word.Joint n) (x, q, s) k e d = absurd (not_looser x (subst (Ends loosest) s.is e))
 no_closing codes at Word.Opening s k e d = refuses_by codes at d opening s refl
-no_closing codes at Word.Closing s k e d = absurd (miss (0 ∷ 1 ∷ 2 ∷ 3 ∷ 4 ∷ 6 ∷ 7 ∷ []) 5 tt k)
+no_closing codes at Word.Closing s k e d = absurd (k refl)
 no_closing codes at Word.Newline s k e d = refuses_by codes at d newline s refl
 no_closing codes at Word.Invalid s k e d = refuses_by codes at d invalid s refl
 
@@ -229,7 +222,7 @@ closed_there codes inner e w r count q x s t p =
 pub closing_inside : (codes : List ℕ) (at : ℕ) (w : Word) → Stands codes at w → w ≡ Word.Closing → at < most_text
 closing_inside codes at w s t = (stands_as codes at w Word.Closing s t).inside
 
-pub closed_not : (codes : List ℕ) (inner e : ℕ) (w : Word) → e ≡ end_of inner → Stands codes e w → OneOf (0 ∷ 1 ∷ 2 ∷ 3 ∷ 4 ∷ 6 ∷ 7 ∷ []) (tag_of the_type w) → Closed codes inner 0
+pub closed_not : (codes : List ℕ) (inner e : ℕ) (w : Word) → e ≡ end_of inner → Stands codes e w → (w ≡ Word.Closing → ⊥) → Closed codes inner 0
 closed_not codes inner e w q s k = inr (refl, subst (λ (i : ℕ). Ends loosest (tokens_from codes i) → (d : ℕ) → Refuses (operator (suc d)) (tokens_from codes i)) q (no_closing codes e w s k))
 
 pub closes : (codes : List ℕ) (at count : ℕ) (before after : List ℕ) (m r : ℕ) → Spot codes at opening → Parsed codes (at + 1) 4 count before after m → (m ≡ 0 → ⊥) → Closed codes m r → Parsed codes at 0 count before after r
@@ -383,10 +376,6 @@ module _ {codes : List ℕ} {first l : ℕ} {begun tray : List ℕ} {left e kind
   here : Joins codes (end_of left) l kind
   here = joins_of (joint_by w x) n
 
-  -- a joint stands before the end
-  pub joint_inside : end_of left < most_text
-  joint_inside = here.spot.inside
-
   pub adding_lost : {i c : ℕ} {a b : List ℕ} {r : ℕ} → c ≡ count_of left → Parsed codes (e + 1) i c a b r → r ≡ 0 → Grouped codes first l begun b 0
   adding_lost v h z at k m before q f g =
       inl (refl, lost_later codes at k l m before tray (end_of left) (count_of left) kind (inv.goes at k m before q f g) here (lost_of (parsed_by w v h) z))
@@ -424,10 +413,6 @@ module _ {codes : List ℕ} {first l : ℕ} {begun tray : List ℕ} {left e kind
             (subst (λ (i : ℕ). Got codes (end_of left + 1) i (count_of left) tray b (end_of right) (count_of right)) (omega arith) g) p));
       }
 
--- a phrase of the level, from one of the level below
-pub grouped : (codes : List ℕ) (at l count : ℕ) (before middle after : List ℕ) (first r : ℕ) → 1 ≤ l → count ≤ at → Parsed codes at (l - 1) count before middle first → (first ≡ 0 → ⊥) → Grouped codes first l middle after r → Parsed codes at l count before after r
-grouped codes at l count before middle after first r up few h n g = g at (l - 1) count before (omega arith) few (got_of h n)
-
 -- what stands where no joint of the level does
 looser : (codes : List ℕ) (at k l : ℕ) (j : Joint) → l ≡ suc k → Spot codes at (joint j) → (level j ≡ l → ⊥) → Ends k (tokens_from codes at) → Ends l (tokens_from codes at)
 looser codes at k l j q s n e = subst (Ends l) (sym s.is) (let x : k < level j = subst (Ends k) s.is e in omega arith)
@@ -435,11 +420,11 @@ looser codes at k l j q s n e = subst (Ends l) (sym s.is) (let x : k < level j =
 stop_any : (codes : List ℕ) (at l : ℕ) (ts : List Token) → tokens_from codes at ≡ ts → Ends l ts → Ends l (tokens_from codes at)
 stop_any codes at l ts e h = subst (Ends l) (sym e) h
 
-pub no_joint : (codes : List ℕ) (at l : ℕ) (w : Word) → Stands codes at w → OneOf (0 ∷ 1 ∷ 2 ∷ 4 ∷ 5 ∷ 6 ∷ 7 ∷ []) (tag_of the_type w) → Ends l (tokens_from codes at)
+pub no_joint : (codes : List ℕ) (at l : ℕ) (w : Word) → Stands codes at w → ((n : ℕ) → w ≡ Word.Joint n → ⊥) → Ends l (tokens_from codes at)
 no_joint codes at l Word.End e k = stop_any codes at l [] e tt
 no_joint codes at l (Word.Name a) s k = stop_any codes at l (name a ∷ tokens_from codes (at + 1)) s.is tt
 no_joint codes at l (Word.Sign n) (x, q, s) k = stop_any codes at l (sign x ∷ tokens_from codes (at + 1)) s.is tt
-no_joint codes at l (Word.Joint n) h k = absurd (miss (0 ∷ 1 ∷ 2 ∷ 4 ∷ 5 ∷ 6 ∷ 7 ∷ []) 3 tt k)
+no_joint codes at l (Word.Joint n) h k = absurd (k n refl)
 no_joint codes at l Word.Opening s k = stop_any codes at l (opening ∷ tokens_from codes (at + 1)) s.is tt
 no_joint codes at l Word.Closing s k = stop_any codes at l (closing ∷ tokens_from codes (at + 1)) s.is tt
 no_joint codes at l Word.Newline s k = stop_any codes at l (newline ∷ tokens_from codes (at + 1)) s.is tt
@@ -450,9 +435,3 @@ joint_other codes at l kind x (j, q, s) h n = inl (refl, λ k e. looser codes at
 
 pub joint_here : (codes : List ℕ) (at l kind x : ℕ) → Stands codes at (Word.Joint kind) → ((j : Joint) → kind ≡ joint_kind j → x ≡ level j) → x ≡ l → JointAt codes at l kind
 joint_here codes at l kind x (j, q, s) h e = inr (record { which = j; kind_is = q; level_is = sym (h j q) ∙ e; spot = s })
-
-pub parsed_level : {codes : List ℕ} {at l k count : ℕ} {before after : List ℕ} {r : ℕ} → k ≡ l → Parsed codes at k count before after r → Parsed codes at l count before after r
-parsed_level {codes} {at} {count = count} {before = before} {after = after} {r = r} q = subst (λ (i : ℕ). Parsed codes at i count before after r) q
-
-pub sign_inside : {codes : List ℕ} {at k : ℕ} → Stands codes at (Word.Sign k) → at < most_text
-sign_inside (s, q, w) = w.inside

@@ -4,8 +4,6 @@ use mathlib.Core.List.{List, [], ◌∷◌, ◌++◌, append_assoc, append-nil}
 use mathlib.Core.Option.{Option, some}
 use Prim.Native.Nat.{ℕ, suc, ◌+◌, ◌*◌, ◌-◌, ◌≤◌, ◌<◌}
 use native.Mathlib.Omega.{arith}
-use types.Run.{OneOf, miss}
-use denote.Enum.Declared.{tag_of}
 use lib.ListN.{length, set, replicate, length-append}
 use Rattle.definition.specs.Formula.{Form}
 use Rattle.grammar.specs.Tokens.{Token, name, sign, joint, opening, closing, newline, invalid, loosest}
@@ -22,8 +20,6 @@ use Rattle.definition.specs.Limits.{record_length, most_text, text_tray_length}
 use Rattle.lexer.specs.Codes.{tokens_from}
 use Rattle.lexer.specs.Words.{Spot, Stands}
 use Rattle.lexer.specs.declared.Word.{Word}
-use Rattle.lexer.specs.declared.Word.TheVariants as Word
-use Rattle.lexer.specs.contracts.Word.{the_type}
 use Rattle.lexer.proofs.Coding.{from_cons}
 use Rattle.reader.specs.Levels.{end_of, count_of, Got, Lost, Parsed, LinesRead}
 use Rattle.reader.proofs.Levels.{got_of, lost_of}
@@ -129,8 +125,8 @@ reading_next codes tray middle after at count step written next s h n w e mk =
             }
 
 -- tokens are left
-some_tokens : (codes : List ℕ) (at : ℕ) (w : Word) → Stands codes at w → OneOf (1 ∷ 2 ∷ 3 ∷ 4 ∷ 5 ∷ 6 ∷ 7 ∷ []) (tag_of the_type w) → (t : Token) × Spot codes at t
-some_tokens codes at Word.End s k = absurd (miss (1 ∷ 2 ∷ 3 ∷ 4 ∷ 5 ∷ 6 ∷ 7 ∷ []) 0 tt k)
+some_tokens : (codes : List ℕ) (at : ℕ) (w : Word) → Stands codes at w → (w ≡ Word.End → ⊥) → (t : Token) × Spot codes at t
+some_tokens codes at Word.End s k = absurd (k refl)
 some_tokens codes at (Word.Name a) s k = (name a, s)
 some_tokens codes at (Word.Sign n) (x, q, s) k = (sign x, s)
 some_tokens codes at (Word.Joint n) (x, q, s) k = (joint x, s)
@@ -139,11 +135,11 @@ some_tokens codes at Word.Closing s k = (closing, s)
 some_tokens codes at Word.Newline s k = (newline, s)
 some_tokens codes at Word.Invalid s k = (invalid, s)
 
-pub line_inside : (codes : List ℕ) (at : ℕ) (w : Word) → Stands codes at w → OneOf (1 ∷ 2 ∷ 3 ∷ 4 ∷ 5 ∷ 6 ∷ 7 ∷ []) (tag_of the_type w) → at < most_text
+pub line_inside : (codes : List ℕ) (at : ℕ) (w : Word) → Stands codes at w → (w ≡ Word.End → ⊥) → at < most_text
 line_inside codes at w s k = (some_tokens codes at w s k).1.inside
 
 -- in an accepted text a line has its phrase
-pub lines_lost : (codes tray after : List ℕ) (at count step r : ℕ) (w : Word) → Reading codes tray at count → Stands codes at w → OneOf (1 ∷ 2 ∷ 3 ∷ 4 ∷ 5 ∷ 6 ∷ 7 ∷ []) (tag_of the_type w) → Parsed codes at 4 count tray after step → step ≡ 0 → LinesRead codes after r
+pub lines_lost : (codes tray after : List ℕ) (at count step r : ℕ) (w : Word) → Reading codes tray at count → Stands codes at w → (w ≡ Word.End → ⊥) → Parsed codes at 4 count tray after step → step ≡ 0 → LinesRead codes after r
 lines_lost codes tray after at count step r w s v k h e a = absurd (go (some_tokens codes at w v k) (lost_of h e))
   where
     go : (t : Token) × Spot codes at t → Lost codes at → ⊥

@@ -13,14 +13,12 @@ use Rattle.grammar.specs.Grammar.{Text}
 use Rattle.grammar.specs.Lines.{lines_from, tray_of}
 use Rattle.lexer.specs.Scanned.{ScannedAs}
 use Rattle.lexer.specs.declared.Scanned.{Scanned}
-use Rattle.lexer.specs.declared.Scanned.TheVariants as Scanned
 use Rattle.definition.proofs.Basics.Lists.{length_padded}
 use Rattle.grammar.proofs.Decoded.{length_bytes}
 use Rattle.grammar.proofs.Texts.{reading}
 use Rattle.reader.specs.Levels.{LinesRead}
 use Rattle.reader.specs.Contract.{ReadText, LinesWritten}
 use Rattle.reader.specs.declared.Reading.{Reading}
-use Rattle.reader.specs.declared.Reading.TheVariants as Reading
 
 -- a tray has its length where the records have room
 length_tray : (rs : List Rec) → length rs ≤ most_text → length (tray_of rs) ≡ text_tray_length

@@ -10,7 +10,6 @@ use Rattle.grammar.specs.Lines.{lines_from, tray_of}
 use Rattle.grammar.specs.Automaton.{fresh, run}
 use Rattle.lexer.specs.Codes.{tokens_from}
 use Rattle.reader.specs.declared.Reading.{Reading}
-use Rattle.reader.specs.declared.Reading.TheVariants as Reading
 
 -- the text belongs to the grammar: its records are in the tray, "the rest zero", and what is lent beyond stays
 pub record Taken (text before after : List ℕ) (count : ℕ) : Type 0 where

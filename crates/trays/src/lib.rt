@@ -76,16 +76,14 @@ struct NodeWriter<'a> {
 
 // A writer of a tray, from a position.
 fn writer<'a>(tray: &'a mut [u8], at: usize) -> NodeWriter<'a>
-    ensures same_reference { result.tray.ghost_name ≡ tray.entry.ghost_name }
-    ensures made { (result.tray ≡ tray.entry) × (result.at ≡ at) }
+    ensures { (result.tray ≡ tray.entry) × (result.at ≡ at) }
 {
     NodeWriter { tray: tray, at: at }
 }
 
 // The record of node x is appended: the writer is handed back at the position after it.
 fn append<'a>(w: NodeWriter<'a>, nodes: &Nodes, x: ProofTreeNodeID) -> NodeWriter<'a>
-    ensures same_reference { result.tray.ghost_name ≡ w.entry.tray.ghost_name }
-    ensures appended { SameTray w.entry result × ((ns : List Node) → Lays ns nodes.now → (node_at ns x.0).world < 256
+    ensures { SameTray w.entry result × ((ns : List Node) → Lays ns nodes.now → (node_at ns x.0).world < 256
         → Appends (node_bytes (node_at ns x.0)) w.entry result) }
 {
     let at = w.at;
@@ -101,8 +99,9 @@ fn append_node(tray: &mut [u8], at: usize, nodes: &Nodes, x: ProofTreeNodeID) ->
     ensures { (ns : List Node) → Lays ns nodes.now → (node_at ns x.0).world < 256
         → Puts (node_bytes (node_at ns x.0)) at tray.old result tray.new }
 {
-    let w = append(writer(tray, at), nodes, x);
-    w.at
+    let w = writer(tray, at);
+    let from = w.at;
+    put_node(&mut *w.tray, from, nodes, x)
 }
 
 // The node tray: the records in order of identifier, then zeros.

@@ -1,4 +1,3 @@
-use borrow.Author.Rules.{rules}
 use Rattle.lexer.proofs.Stepping.{out_zero, out_some}
 use Rattle.lexer.proofs.after_closing.Goals as goal
 

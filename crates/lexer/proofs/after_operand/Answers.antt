@@ -1,4 +1,3 @@
-use borrow.Author.Rules.{rules}
 use mathlib.Core.Path.{refl}
 use native.Mathlib.Omega.{arith}
 use Rattle.lexer.specs.Steps.{state_of}
@@ -17,4 +16,4 @@ pub returns-in-Newline : goal.returns-in-Newline
 returns-in-Newline c = goes_as c.args.depth c.args.word _ c.after_newline.result c.in-Newline.is c.after_newline.ensures
 
 pub returns-in_default : goal.returns-in_default
-returns-in_default c = goes_as c.args.depth c.args.word _ Followed.Refused refl (goes_none c.args.depth c.args.word c.in_default.in_default-own.keys4)
+returns-in_default c = goes_as c.args.depth c.args.word _ Followed.Refused refl (goes_none c.args.depth c.args.word c.in_default.not-Joint c.in_default.not-Closing c.in_default.not-Newline)

@@ -1,4 +1,3 @@
-use borrow.Author.Rules.{rules}
 use mathlib.Core.Path.{refl}
 use Prim.Native.Nat.{◌+◌}
 use native.Mathlib.Omega.{arith}
@@ -20,7 +19,7 @@ unfolding state_of
 returns-in-Opening c = begins_as c.args.depth c.args.word _ (Followed.To 1 (c.args.depth + 1)) c.in-Opening.is (deeper c.args.depth)
 
 pub returns-in_default : goal.returns-in_default
-returns-in_default c = begins_as c.args.depth c.args.word _ Followed.Refused refl (begins_none c.args.depth c.args.word c.in_default.in_default-own.keys4)
+returns-in_default c = begins_as c.args.depth c.args.word _ Followed.Refused refl (begins_none c.args.depth c.args.word c.in_default.not-Name c.in_default.not-Sign c.in_default.not-Opening)
 
 pub overflow_add-result : goal.overflow_add-result
 overflow_add-result c = omega (arith, c.requires)

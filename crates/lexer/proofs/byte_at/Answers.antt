@@ -1,5 +1,4 @@
 use mathlib.Core.Path.{sym}
-use borrow.Author.Rules.{rules}
 use Rattle.lexer.proofs.Spelling.{no_byte}
 use Rattle.lexer.proofs.byte_at.Goals as goal
 

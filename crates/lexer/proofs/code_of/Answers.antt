@@ -1,4 +1,3 @@
-use borrow.Author.Rules.{rules}
 use mathlib.Core.Path.{refl}
 use Rattle.lexer.proofs.Stepping.{code_as}
 use Rattle.lexer.proofs.code_of.Goals as goal

@@ -1,7 +1,5 @@
 use native.Mathlib.Omega.{arith}
-use Prim.Native.Nat.{◌-◌}
-use lib.ListN.{length}
-use Rattle.lexer.proofs.Spelling.{Counting, counting_start, counting_next, stop_below, stop_above, stop_end}
+use Rattle.lexer.proofs.Spelling.{counting_start, counting_next, stop_below, stop_above, stop_end}
 use Rattle.lexer.proofs.digits_at.Goals as goal
 
 pub loop-i-init : goal.loop-i-init

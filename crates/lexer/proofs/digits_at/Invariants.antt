@@ -1,7 +1,6 @@
-use native.Mathlib.Omega.{arith}
 use Prim.Native.Nat.{◌-◌}
 use lib.ListN.{length}
-use Rattle.lexer.proofs.Spelling.{Counting, counting_start, counting_next, stop_below, stop_above, stop_end}
+use Rattle.lexer.proofs.Spelling.{Counting}
 use Rattle.lexer.proofs.digits_at.Given as goal
 
 abbrev pub invariant-loop-i : goal.invariant-loop-i

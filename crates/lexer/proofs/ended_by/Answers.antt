@@ -1,4 +1,3 @@
-use borrow.Author.Rules.{rules}
 use Rattle.lexer.proofs.Spelling.{byte_wanted, byte_other}
 use Rattle.lexer.proofs.ended_by.Goals as goal
 

@@ -1,4 +1,3 @@
-use borrow.Author.Rules.{rules}
 use Rattle.lexer.proofs.Stepping.{stepped_line, stepped_operand, stepped_after}
 use Rattle.lexer.proofs.follow.Goals as goal
 

@@ -1,6 +1,5 @@
 use native.Mathlib.Omega.{arith}
 use Rattle.lexer.proofs.Spelling.{name_found, name_misbegun, name_large}
-use borrow.Author.Rules.{rules}
 use Rattle.lexer.proofs.name_at.Goals as goal
 
 pub overflow_add-at : goal.overflow_add-at

@@ -1,5 +1,4 @@
 use Rattle.lexer.proofs.Spelling.{shows_after}
-use borrow.Author.Rules.{rules}
 use Rattle.lexer.proofs.next_token.Goals as goal
 
 pub token_at-requires : goal.token_at-requires

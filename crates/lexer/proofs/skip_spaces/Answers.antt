@@ -1,8 +1,5 @@
 use native.Mathlib.Omega.{arith}
-use mathlib.Core.Path.{◌≡◌, refl, ◌∙◌}
-use Prim.Native.Nat.{◌≤◌, ◌-◌}
-use lib.ListN.{length}
-use Rattle.grammar.specs.Scan.{lexed}
+use mathlib.Core.Path.{refl, ◌∙◌}
 use Rattle.lexer.proofs.Spelling.{no_byte, space_next}
 use Rattle.lexer.proofs.skip_spaces.Goals as goal
 

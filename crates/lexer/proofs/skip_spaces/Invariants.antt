@@ -1,9 +1,7 @@
-use native.Mathlib.Omega.{arith}
-use mathlib.Core.Path.{◌≡◌, refl, ◌∙◌}
+use mathlib.Core.Path.{◌≡◌}
 use Prim.Native.Nat.{◌≤◌, ◌-◌}
 use lib.ListN.{length}
 use Rattle.grammar.specs.Scan.{lexed}
-use Rattle.lexer.proofs.Spelling.{no_byte, space_next}
 use Rattle.lexer.proofs.skip_spaces.Given as goal
 
 abbrev pub invariant-loop-i : goal.invariant-loop-i

@@ -1,7 +1,6 @@
 use native.Mathlib.Omega.{arith}
 use mathlib.Core.Path.{sym, ◌∙◌}
 use Rattle.lexer.proofs.Spelling.{shows_end, fixed_shows}
-use borrow.Author.Rules.{rules}
 use Rattle.lexer.proofs.token_at.Goals as goal
 
 pub returns-then-text-at : goal.returns-then-text-at

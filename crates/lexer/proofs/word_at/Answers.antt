@@ -1,4 +1,3 @@
-use borrow.Author.Rules.{rules}
 use Rattle.lexer.proofs.Coding.{ends_at, stands}
 use Rattle.lexer.proofs.word_at.Goals as goal
 

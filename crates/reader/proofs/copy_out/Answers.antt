@@ -1,9 +1,6 @@
 use native.Mathlib.Omega.{arith}
-use mathlib.Core.Path.{◌≡◌, refl}
-use mathlib.Core.List.{◌++◌}
-use Prim.Native.Nat.{◌≤◌, ◌-◌}
-use lib.ListN.{length, take, drop, length-set}
-use Rattle.definition.specs.Limits.{text_tray_length}
+use mathlib.Core.Path.{refl}
+use lib.ListN.{length-set}
 use Rattle.reader.proofs.Placing.{copies, copied}
 use Rattle.reader.proofs.copy_out.Goals as goal
 

@@ -1,4 +1,5 @@
 use mathlib.Core.Path.{refl}
+use native.Mathlib.Omega.{arith}
 use Rattle.reader.proofs.Levels.{level_at, no_kind}
 use Rattle.reader.proofs.level_of.Goals as goal
 
@@ -18,4 +19,4 @@ pub returns-in-6 : goal.returns-in-6
 returns-in-6 c = level_at c.args.kind 6 3 c.in-6.is refl
 
 pub returns-in_default : goal.returns-in_default
-returns-in_default c = no_kind c.args.kind c.in_default.in_default-own.rest
+returns-in_default c = no_kind c.args.kind (λ e. omega arith) (λ e. omega arith) (λ e. omega arith) (λ e. omega arith) (λ e. omega arith)

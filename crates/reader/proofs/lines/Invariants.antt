@@ -1,9 +1,6 @@
 use Rattle.definition.specs.Limits.{most_text}
-use borrow.Author.Rules.{rules}
-use native.Mathlib.Omega.{arith}
 use Prim.Native.Nat.{◌+◌, ◌-◌}
-use Rattle.reader.proofs.Levels.{stands_as, bounds}
-use Rattle.reader.proofs.Sofar.{Reading, reading_start, reading_next, line_inside, lines_lost, lines_end}
+use Rattle.reader.proofs.Sofar.{Reading}
 use Rattle.reader.proofs.lines.Given as goal
 
 abbrev pub invariant-loop-records : goal.invariant-loop-records

@@ -1,5 +1,4 @@
 use native.Mathlib.Omega.{arith}
-use borrow.Author.Rules.{rules}
 use Rattle.reader.proofs.mark.Goals as goal
 
 pub returns-then-n-ge-MOST_TEXT : goal.returns-then-n-ge-MOST_TEXT

@@ -1,5 +1,4 @@
 use native.Mathlib.Omega.{arith}
-use borrow.Author.Rules.{rules}
 use Rattle.reader.proofs.Placing.{puts}
 use Rattle.reader.proofs.put.Goals as goal
 

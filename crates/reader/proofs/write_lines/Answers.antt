@@ -1,4 +1,3 @@
-use borrow.Author.Rules.{rules}
 use Rattle.reader.proofs.Whole.{written}
 use Rattle.reader.proofs.write_lines.Goals as goal
 
