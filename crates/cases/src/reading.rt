@@ -4,6 +4,7 @@ ghost use Rattle.cases.specs.Tally.{one_more, one_failed, judged, finished, Sinc
 ghost use Rattle.cases.specs.File.{FileRead, Takes, Went};
 
 use crate::compare::{Difference, compare_line};
+use std::io::Read;
 
 // The line's number in its file, the cases so far and how many of them failed.
 #[derive(Clone, Copy)]
@@ -20,16 +21,24 @@ fn next(n: usize) -> usize
     if n < 1000000000 { n + 1 } else { n }
 }
 
+pub fn write<P: Print>(rt: &P, text: &[u8]) {
+    let _ = rt.write_all(text);
+}
+
+pub fn write_number<P: Print>(rt: &P, n: usize) {
+    let _ = rt.print(n);
+}
+
 // A failing line: the file's name, the line's number and what differs.
-pub fn report(name: &[u8], tally: Tally, what: &[u8]) -> Tally
+pub fn report<P: Print>(rt: &P, name: &[u8], tally: Tally, what: &[u8]) -> Tally
     ensures { result ≡ one_failed tally }
 {
-    io::write_all(libc::STDOUT_FILENO, name);
-    io::write_all(libc::STDOUT_FILENO, b":");
-    io::print_decimal(libc::STDOUT_FILENO, tally.line as u64);
-    io::write_all(libc::STDOUT_FILENO, b" ");
-    io::write_all(libc::STDOUT_FILENO, what);
-    io::write_all(libc::STDOUT_FILENO, b"\n");
+    write(rt, name);
+    write(rt, b":");
+    write_number(rt, tally.line);
+    write(rt, b" ");
+    write(rt, what);
+    write(rt, b"\n");
     Tally {
         line: tally.line,
         cases: tally.cases,
@@ -37,23 +46,23 @@ pub fn report(name: &[u8], tally: Tally, what: &[u8]) -> Tally
     }
 }
 
-fn judge(name: &[u8], tally: Tally, difference: Difference) -> Tally
+fn judge<P: Print>(rt: &P, name: &[u8], tally: Tally, difference: Difference) -> Tally
     ensures { result ≡ judged difference tally }
 {
     match difference {
         Difference::Nothing => tally,
-        Difference::Form => report(name, tally, b"form"),
-        Difference::Verdict => report(name, tally, b"verdict"),
-        Difference::Identifiers => report(name, tally, b"identifiers"),
-        Difference::Worlds => report(name, tally, b"worlds"),
-        Difference::Steps => report(name, tally, b"steps"),
-        Difference::Digest => report(name, tally, b"digest"),
-        Difference::Trays => report(name, tally, b"trays"),
+        Difference::Form => report(rt, name, tally, b"form"),
+        Difference::Verdict => report(rt, name, tally, b"verdict"),
+        Difference::Identifiers => report(rt, name, tally, b"identifiers"),
+        Difference::Worlds => report(rt, name, tally, b"worlds"),
+        Difference::Steps => report(rt, name, tally, b"steps"),
+        Difference::Digest => report(rt, name, tally, b"digest"),
+        Difference::Trays => report(rt, name, tally, b"trays"),
     }
 }
 
 // A whole line; one that begins with # is a comment.
-fn finish(name: &[u8], line: &[u8], tally: Tally) -> Tally
+fn finish<P: Print>(rt: &P, name: &[u8], line: &[u8], tally: Tally) -> Tally
     ensures { result ≡ finished line.now tally }
 {
     let at = Tally {
@@ -72,7 +81,7 @@ fn finish(name: &[u8], line: &[u8], tally: Tally) -> Tally
         cases: next(at.cases),
         failed: at.failed,
     };
-    judge(name, counted, compare_line(line))
+    judge(rt, name, counted, compare_line(line))
 }
 
 // The line so far, and the tally.
@@ -83,7 +92,7 @@ struct Progress {
 }
 
 // One byte more. What has no room is dropped, and the line is then not of the form.
-fn feed(name: &[u8], line: &mut [u8], p: Progress, b: u8) -> Progress
+fn feed<P: Print>(rt: &P, name: &[u8], line: &mut [u8], p: Progress, b: u8) -> Progress
     ensures { p.len ≤ length line.old → Takes line.old p (b ∷ []) line.new result }
 {
     let len = p.len;
@@ -92,7 +101,7 @@ fn feed(name: &[u8], line: &mut [u8], p: Progress, b: u8) -> Progress
         return Progress { len: 0, tally };
     }
     if b == b'\n' {
-        let after = finish(name, &line[..len], tally);
+        let after = finish(rt, name, &line[..len], tally);
         return Progress {
             len: 0,
             tally: after,
@@ -108,13 +117,13 @@ fn feed(name: &[u8], line: &mut [u8], p: Progress, b: u8) -> Progress
     p
 }
 
-fn feed_all(name: &[u8], line: &mut [u8], p: Progress, part: &[u8]) -> Progress
+fn feed_all<P: Print>(rt: &P, name: &[u8], line: &mut [u8], p: Progress, part: &[u8]) -> Progress
     ensures { p.len ≤ length line.old → Takes line.old p part.now line.new result }
 {
     let mut q = p;
     let mut i: usize = 0;
     while i < part.len() {
-        q = feed(name, line, q, part[i]);
+        q = feed(rt, name, line, q, part[i]);
         i += 1;
     }
     q
@@ -128,25 +137,27 @@ enum More {
     Read { progress: Progress },
 }
 
-fn read_more(fd: i32, name: &[u8], line: &mut [u8], p: Progress) -> More
+fn read_more<P: Print, R: Read>(
+    rt: &P,
+    file: &mut R,
+    name: &[u8],
+    line: &mut [u8],
+    p: Progress,
+) -> More
     ensures { p.len ≤ length line.old → Went line.old p line.new result }
 {
     let mut part = io::buffer();
-    let got = libc::read(fd, &mut part);
-    if got < 0 {
-        return More::Failed;
-    }
-    if got == 0 {
-        return More::Ended;
-    }
-    let n = io::count(got, &part);
-    More::Read {
-        progress: feed_all(name, line, p, &part[..n]),
+    match file.read(&mut part) {
+        Err(_) => More::Failed,
+        Ok(0) => More::Ended,
+        Ok(n) => More::Read {
+            progress: feed_all(rt, name, line, p, &part[..n]),
+        },
     }
 }
 
 // The file to its end, in at most 2^40 reads.
-pub fn read_file(fd: i32, name: &[u8], tally: Tally) -> Tally
+pub fn read_file<P: Print, R: Read>(rt: &P, file: &mut R, name: &[u8], tally: Tally) -> Tally
     ensures file_read { FileRead tally result }
     ensures since { Since 1 tally result }
 {
@@ -161,12 +172,12 @@ pub fn read_file(fd: i32, name: &[u8], tally: Tally) -> Tally
     };
     let mut reads: u64 = 1099511627776;
     while 0 < reads {
-        match read_more(fd, name, &mut line, p) {
-            More::Failed => return report(name, p.tally, b"can't be read"),
+        match read_more(rt, file, name, &mut line, p) {
+            More::Failed => return report(rt, name, p.tally, b"can't be read"),
             More::Ended => return p.tally,
             More::Read { progress } => p = progress,
         }
         reads -= 1;
     }
-    report(name, p.tally, b"is too long")
+    report(rt, name, p.tally, b"is too long")
 }

@@ -16,6 +16,9 @@ use limits::{
     EDGE_TRAY_LENGTH, FORMULA_TRAY_LENGTH, MOST_RECORDS, NODE_TRAY_LENGTH, RECORD_LENGTH,
 };
 use prover::{Answer, prove};
+use std::env::FillError;
+use std::io::{Read, Write};
+use std::rt::Env;
 
 // The bytes of the longest branch.
 const WINDOW_LENGTH: usize = RECORD_LENGTH * MOST_RECORDS;
@@ -106,34 +109,30 @@ pub fn keep(kept: &mut [u8], seen: usize, part: &[u8]) -> usize
 }
 
 // Reads once.
-fn read_more(kept: &mut [u8], seen: usize) -> More
+fn read_more<R: Read>(input: &mut R, kept: &mut [u8], seen: usize) -> More
     requires { Windowed kept.old seen }
     ensures { ReadsMore kept.new seen result }
 {
     let mut part = io::large_buffer();
-    let got = libc::read(libc::STDIN_FILENO, &mut part);
-    if got < 0 {
-        return More::Failed;
-    }
-    if got == 0 {
-        return More::Ended;
-    }
-    let n = io::count(got, &part);
-    More::Seen {
-        seen: keep(kept, seen, &part[..n]),
+    match input.read(&mut part) {
+        Err(_) => More::Failed,
+        Ok(0) => More::Ended,
+        Ok(n) => More::Seen {
+            seen: keep(kept, seen, &part[..n]),
+        },
     }
 }
 
-// Reads standard input to its end. A proved loop has to end, and nothing says that the input does:
+// Reads the input to its end. A proved loop has to end, and nothing says that the input does:
 // the reads are counted, and after 2^64 - 1 of them, which no input reaches, it is a read error.
-fn read_all(kept: &mut [u8]) -> Input
+fn read_all<R: Read>(input: &mut R, kept: &mut [u8]) -> Input
     requires { kept_length ≤ length kept.old }
     ensures { Reads kept.new result }
 {
     let mut seen: usize = 0;
     let mut reads = u64::MAX;
     while 0 < reads {
-        match read_more(kept, seen) {
+        match read_more(input, kept, seen) {
             More::Failed => return Input::Failed,
             More::Ended => return Input::Seen { seen },
             More::Seen { seen: now } => seen = now,
@@ -324,52 +323,80 @@ fn lines_of(text: &mut TextBytes, kept: &[u8], seen: usize) -> usize
     lines(text, &kept[..seen])
 }
 
-// Prints so many bytes of the text on standard output; whether all of them were written. Of a text that
-// has fewer, none are.
-pub fn print(text: &[u8], printed: usize) -> bool
+// Prints so many bytes of the text; whether all of them were written. Of a text that has fewer, none are.
+pub fn print<W: Write>(output: &mut W, text: &[u8], printed: usize) -> bool
     ensures { length text.now < printed → result ≡ false }
 {
     if text.len() < printed {
         return false;
     }
-    io::write_all(libc::STDOUT_FILENO, &text[..printed])
+    output.write_all(&text[..printed]).is_ok()
 }
 
-// Reads standard input and prints its eight lines. An error is reported on standard error; after a
-// read error nothing is printed on standard output.
-fn answer_input(kept: &mut KeptBytes, text: &mut TextBytes) -> Ran
+// Writes a message; an error is let go, since there is nowhere left to report it.
+pub fn write_error<E: Write>(errors: &mut E, message: &[u8]) {
+    let _ = errors.write_all(message);
+}
+
+// Reads the input and prints its eight lines. An error is reported on `errors`; after a read error
+// nothing is printed on `output`.
+fn answer_input<R: Read, W: Write, E: Write>(
+    input: &mut R,
+    output: &mut W,
+    errors: &mut E,
+    kept: &mut KeptBytes,
+    text: &mut TextBytes,
+) -> Ran
     ensures { Runs kept.new text.new result }
 {
-    match read_all(kept) {
+    match read_all(input, kept) {
         Input::Failed => {
-            io::write_all(libc::STDERR_FILENO, b"standard input cannot be read\n");
+            write_error(errors, b"standard input cannot be read\n");
             Ran::ReadFailed
         }
         Input::Seen { seen } => {
             let printed = lines_of(text, kept, seen);
-            if print(text, printed) {
+            if print(output, text, printed) {
                 return Ran::Done { seen, printed };
             }
-            io::write_all(libc::STDERR_FILENO, b"standard output cannot be written\n");
+            write_error(errors, b"standard output cannot be written\n");
             Ran::WriteFailed { seen, printed }
         }
     }
 }
 
-// The program, started with so many words, its own name among them. With a further word nothing is
-// read or printed; it is reported on standard error.
-pub fn run(words: usize, kept: &mut KeptBytes, text: &mut TextBytes) -> Ran
+// How many words the program was started with, its own name among them: 1, or 2 for all that are more.
+pub fn word_count<E: Env>(env: &E) -> usize
+    ensures low { 1 ≤ result }
+    ensures high { result ≤ 2 }
+{
+    match env.arg(1, &mut []) {
+        Err(FillError::NotPresent) => 1,
+        _ => 2,
+    }
+}
+
+// The program, started with so many words, its own name among them: `input`, `output` and `errors`
+// are the standard ones. With a further word nothing is read or printed; it is reported on `errors`.
+pub fn run<R: Read, W: Write, E: Write>(
+    words: usize,
+    input: &mut R,
+    output: &mut W,
+    errors: &mut E,
+    kept: &mut KeptBytes,
+    text: &mut TextBytes,
+) -> Ran
     ensures value { 1 < words → result ≡ Ran.ArgumentGiven }
     ensures kept_unchanged { 1 < words → kept.new ≡ kept.old }
     ensures text_unchanged { 1 < words → text.new ≡ text.old }
     ensures runs { words ≤ 1 → Runs kept.new text.new result }
 {
     if 1 < words {
-        io::write_all(
-            libc::STDERR_FILENO,
+        write_error(
+            errors,
             b"no arguments are taken: records come on standard input (README.md)\n",
         );
         return Ran::ArgumentGiven;
     }
-    answer_input(kept, text)
+    answer_input(input, output, errors, kept, text)
 }

@@ -4,25 +4,25 @@
 use limits::{EDGE_TRAY_LENGTH, FORMULA_TRAY_LENGTH, NODE_TRAY_LENGTH, RECORD_LENGTH};
 use prover::prove;
 
-fn write(text: &[u8]) {
-    io::write_all(libc::STDOUT_FILENO, text);
+fn write<P: Print>(rt: &P, text: &[u8]) {
+    let _ = rt.write_all(text);
 }
 
 // The title and the eight lines of the first n bytes.
-fn show_bytes(title: &[u8], branch: &[u8], n: usize) {
+fn show_bytes<P: Print>(rt: &P, title: &[u8], branch: &[u8], n: usize) {
     if branch.len() < n {
         return;
     }
     let mut text = [0u8; frames::TEXT_LENGTH];
     let printed = frames::lines(&mut text, &branch[..n]);
-    write(title);
-    write(&text[..printed]);
+    write(rt, title);
+    write(rt, &text[..printed]);
 }
 
 // The same of the first n records.
-fn show(title: &[u8], branch: &[u8], n: usize) {
+fn show<P: Print>(rt: &P, title: &[u8], branch: &[u8], n: usize) {
     if n < 1000 {
-        show_bytes(title, branch, RECORD_LENGTH * n);
+        show_bytes(rt, title, branch, RECORD_LENGTH * n);
     }
 }
 
@@ -98,7 +98,7 @@ fn put_chain(branch: &mut [u8], count: usize, kind: u8, both: bool) -> usize {
 }
 
 // An input of so many zero bytes, read in parts of 4,096 and less.
-fn show_long(title: &[u8], branch: &mut [u8], count: usize) {
+fn show_long<P: Print>(rt: &P, title: &[u8], branch: &mut [u8], count: usize) {
     let part = io::buffer();
     let mut seen: usize = 0;
     let mut left = count;
@@ -107,63 +107,77 @@ fn show_long(title: &[u8], branch: &mut [u8], count: usize) {
         left -= 4096;
     }
     let n = frames::keep(branch, seen, &part[..left]);
-    show_bytes(title, branch, n);
+    show_bytes(rt, title, branch, n);
 }
 
-fn show_lengths(branch: &mut [u8]) {
-    show_bytes(b"blank\n", branch, 0);
-    show_bytes(b"torn: 7 bytes\n", branch, 7);
-    show_long(b"torn: 1,537 bytes\n", branch, 1537);
-    show_long(b"torn before overlong: 1,000,001 bytes\n", branch, 1000001);
-    show_long(b"overlong: 1,542 bytes\n", branch, 1542);
-    show_long(b"overlong: 1,000,002 bytes\n", branch, 1000002);
+fn show_lengths<P: Print>(rt: &P, branch: &mut [u8]) {
+    show_bytes(rt, b"blank\n", branch, 0);
+    show_bytes(rt, b"torn: 7 bytes\n", branch, 7);
+    show_long(rt, b"torn: 1,537 bytes\n", branch, 1537);
+    show_long(
+        rt,
+        b"torn before overlong: 1,000,001 bytes\n",
+        branch,
+        1000001,
+    );
+    show_long(rt, b"overlong: 1,542 bytes\n", branch, 1542);
+    show_long(rt, b"overlong: 1,000,002 bytes\n", branch, 1000002);
 }
 
 // One record after a marked atom, which is refused.
-fn show_second(title: &[u8], branch: &mut [u8], kind: u8, mark: u8, left: usize, right: usize) {
+fn show_second<P: Print>(
+    rt: &P,
+    title: &[u8],
+    branch: &mut [u8],
+    kind: u8,
+    mark: u8,
+    left: usize,
+    right: usize,
+) {
     let one = put(branch, 0, 0, 1, 0, 0);
     let n = put(branch, one, kind, mark, left, right);
-    show(title, branch, n);
+    show(rt, title, branch, n);
 }
 
-fn show_fields(branch: &mut [u8]) {
-    show_second(b"unknown stain\n", branch, 9, 1, 0, 0);
-    show_second(b"stray mark: 2\n", branch, 1, 2, 0, 0);
-    show_second(b"stray mark: a field\n", branch, 8, 1, 0, 3);
-    show_second(b"forward link: itself\n", branch, 1, 1, 1, 0);
-    show_second(b"forward link: later\n", branch, 3, 1, 0, 2);
+fn show_fields<P: Print>(rt: &P, branch: &mut [u8]) {
+    show_second(rt, b"unknown stain\n", branch, 9, 1, 0, 0);
+    show_second(rt, b"stray mark: 2\n", branch, 1, 2, 0, 0);
+    show_second(rt, b"stray mark: a field\n", branch, 8, 1, 0, 3);
+    show_second(rt, b"forward link: itself\n", branch, 1, 1, 1, 0);
+    show_second(rt, b"forward link: later\n", branch, 3, 1, 0, 2);
 }
 
-fn show_marks(branch: &mut [u8]) {
+fn show_marks<P: Print>(rt: &P, branch: &mut [u8]) {
     let n = put_chain(branch, 13, 2, true);
-    show(b"oversize\n", branch, n);
-    show(b"unmarked\n", branch, 1);
+    show(rt, b"oversize\n", branch, n);
+    show(rt, b"unmarked\n", branch, 1);
     put_atoms(branch, 65);
-    show(b"crowded\n", branch, 65);
-    show(b"64 marked\n", branch, 64);
+    show(rt, b"crowded\n", branch, 65);
+    show(rt, b"64 marked\n", branch, 64);
     put_atoms(branch, 256);
-    show(b"crowded: 256 records\n", branch, 256);
+    show(rt, b"crowded: 256 records\n", branch, 256);
 }
 
-fn show_ors(branch: &mut [u8]) {
+fn show_ors<P: Print>(rt: &P, branch: &mut [u8]) {
     let n = put_ors(branch, 8);
-    show(b"full: eight Ors\n", branch, n);
-    show(b"seven Ors\n", branch, 21);
+    show(rt, b"full: eight Ors\n", branch, n);
+    show(rt, b"seven Ors\n", branch, 21);
 }
 
-fn show_late(branch: &mut [u8]) {
+fn show_late<P: Print>(rt: &P, branch: &mut [u8]) {
     put(branch, 0, 0, 0, 0, 0);
     put(branch, 1, 7, 0, 0, 0);
     put(branch, 2, 8, 1, 1, 0);
     put(branch, 3, 7, 1, 0, 0);
-    show(b"late: Necessary Possible p, Possible p\n", branch, 4);
+    show(rt, b"late: Necessary Possible p, Possible p\n", branch, 4);
 }
 
-fn show_proved_at_limit(branch: &mut [u8]) {
+fn show_proved_at_limit<P: Print>(rt: &P, branch: &mut [u8]) {
     let n = put_chain(branch, 24, 7, false);
     let last = put(branch, n, 7, 1, 23, 0);
     let count = put(branch, last, 1, 1, 1, 0);
     show(
+        rt,
         b"proved at the limit: 24 Possibles of p, Non Possible p\n",
         branch,
         count,
@@ -171,7 +185,7 @@ fn show_proved_at_limit(branch: &mut [u8]) {
 }
 
 // What Eight Frames never asks: flags above 15, and trays that are too short.
-fn show_call(title: &[u8], flags: u8, size: usize) {
+fn show_call<P: Print>(rt: &P, title: &[u8], flags: u8, size: usize) {
     let atom = [0u8, 1, 0, 0, 0, 0];
     let mut nodes = [0u8; NODE_TRAY_LENGTH];
     let mut formulas = [0u8; FORMULA_TRAY_LENGTH];
@@ -183,20 +197,20 @@ fn show_call(title: &[u8], flags: u8, size: usize) {
     }
     let answer = prove(&atom, flags, &mut lent[..size], &mut formulas, &mut edges);
     let n = frames::line(&mut text, flags, answer);
-    write(title);
-    write(&text[..n]);
+    write(rt, title);
+    write(rt, &text[..n]);
 }
 
-fn main() {
+fn main(rt: HostRuntime) {
     let mut branch = [0u8; frames::KEPT_LENGTH];
     let view: &mut [u8] = &mut branch;
-    show_lengths(view);
-    show_fields(view);
-    show_marks(view);
-    show_ors(view);
-    show_late(view);
-    show_proved_at_limit(view);
-    show_call(b"bad tick\n", 16, NODE_TRAY_LENGTH);
-    show_call(b"short tray\n", 0, NODE_TRAY_LENGTH - 1);
-    show_call(b"skipping\n", 8, NODE_TRAY_LENGTH);
+    show_lengths(&rt, view);
+    show_fields(&rt, view);
+    show_marks(&rt, view);
+    show_ors(&rt, view);
+    show_late(&rt, view);
+    show_proved_at_limit(&rt, view);
+    show_call(&rt, b"bad tick\n", 16, NODE_TRAY_LENGTH);
+    show_call(&rt, b"short tray\n", 0, NODE_TRAY_LENGTH - 1);
+    show_call(&rt, b"skipping\n", 8, NODE_TRAY_LENGTH);
 }

@@ -2,13 +2,14 @@
 // at flags 0, how many records were read, and a digest of them.
 #![tactic(auto)]
 
-ghost use Rattle.std.specs.Prelude.{◌≡◌, length};
+ghost use Rattle.std.specs.Prelude.{◌≡◌, ◌≤◌, length};
 
 use limits::{
     EDGE_TRAY_LENGTH, FORMULA_TRAY_LENGTH, MOST_TEXT, NODE_TRAY_LENGTH, RECORD_LENGTH,
     TEXT_TOO_LONG, TEXT_TRAY_LENGTH, TextRecords, UNREADABLE_TEXT,
 };
 use prover::Answer;
+use std::io::Read;
 use typed::prove_typed;
 
 // No text of the cases is longer.
@@ -19,13 +20,13 @@ const FILLING: u8 = 165;
 
 type CaseBytes = [u8; CASE_LENGTH];
 
-fn write(text: &[u8]) {
-    io::write_all(libc::STDOUT_FILENO, text);
+fn write<P: Print>(rt: &P, text: &[u8]) {
+    let _ = rt.write_all(text);
 }
 
-fn write_number(n: u64, after: &[u8]) {
-    io::print_decimal(libc::STDOUT_FILENO, n);
-    write(after);
+fn write_number<P: Print>(rt: &P, n: u64, after: &[u8]) {
+    let _ = rt.print(n);
+    write(rt, after);
 }
 
 // How many records: they end with the last that is marked.
@@ -62,25 +63,25 @@ fn digest(records: &TextRecords, n: usize) -> u64 {
     d
 }
 
-fn word(proved: bool, late: bool) {
+fn word<P: Print>(rt: &P, proved: bool, late: bool) {
     if proved {
         if late {
-            return write(b"proved and late ");
+            return write(rt, b"proved and late ");
         }
-        return write(b"proved ");
+        return write(rt, b"proved ");
     }
     if late {
-        return write(b"late ");
+        return write(rt, b"late ");
     }
-    write(b"open ")
+    write(rt, b"open ")
 }
 
-fn say(answer: Answer) {
+fn say<P: Print>(rt: &P, answer: Answer) {
     match answer {
         Answer::Refusal { number, place } => {
-            write(b"refused ");
-            write_number(number as u64, b" ");
-            write_number(place as u64, b" ");
+            write(rt, b"refused ");
+            write_number(rt, number as u64, b" ");
+            write_number(rt, place as u64, b" ");
         }
         Answer::Verdict {
             proved,
@@ -90,10 +91,10 @@ fn say(answer: Answer) {
             worlds,
             steps,
         } => {
-            word(proved, late);
-            write_number(identifiers as u64, b" ");
-            write_number(worlds as u64, b" ");
-            write_number(steps as u64, b" ");
+            word(rt, proved, late);
+            write_number(rt, identifiers as u64, b" ");
+            write_number(rt, worlds as u64, b" ");
+            write_number(rt, steps as u64, b" ");
         }
     }
 }
@@ -127,7 +128,7 @@ fn filled(records: &TextRecords, n: usize, b: u8) -> bool {
 }
 
 // The line of the first n bytes.
-fn show(text: &[u8], n: usize) {
+fn show<P: Print>(rt: &P, text: &[u8], n: usize) {
     if text.len() < n {
         return;
     }
@@ -143,17 +144,17 @@ fn show(text: &[u8], n: usize) {
         &mut formulas,
         &mut edges,
     );
-    say(answer);
+    say(rt, answer);
     let count = record_count(&records);
-    write_number(count as u64, b" ");
+    write_number(rt, count as u64, b" ");
     if count <= MOST_TEXT {
         let end = RECORD_LENGTH * count;
-        write_number(digest(&records, end), b"");
+        write_number(rt, digest(&records, end), b"");
         if !filled(&records, end, filling(answer)) {
-            write(b" and more");
+            write(rt, b" and more");
         }
     }
-    write(b"\n");
+    write(rt, b"\n");
 }
 
 // So many bytes of the input, from a position on, then zeros.
@@ -193,7 +194,7 @@ fn length_at(input: &[u8], at: usize) -> usize {
     number(input[at], input[at + 1])
 }
 
-fn show_all(input: &[u8]) {
+fn show_all<P: Print>(rt: &P, input: &[u8]) {
     let mut at: usize = 0;
     while at < input.len() {
         let n = length_at(input, at);
@@ -201,13 +202,28 @@ fn show_all(input: &[u8]) {
             return;
         }
         let text = part(input, at + 2, n);
-        show(&text, n);
+        show(rt, &text, n);
         at += 2 + n;
     }
 }
 
-fn main() {
+// Reads until `buf` is full, the input ends or a read fails; how many bytes are then at the start of `buf`.
+fn read_full<R: Read>(input: &mut R, buf: &mut [u8]) -> usize
+    ensures { result ≤ length buf.new }
+{
+    let mut done: usize = 0;
+    while done < buf.len() {
+        match input.read(&mut buf[done..]) {
+            Err(_) => return done,
+            Ok(0) => return done,
+            Ok(n) => done += n,
+        }
+    }
+    done
+}
+
+fn main(rt: HostRuntime) {
     let mut input = io::large_buffer();
-    let n = io::read_full(libc::STDIN_FILENO, &mut input);
-    show_all(&input[..n]);
+    let n = read_full(&mut rt.stdin(), &mut input);
+    show_all(&rt, &input[..n]);
 }

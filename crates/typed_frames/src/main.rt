@@ -1,8 +1,15 @@
 // Eight Frames of typed rules: a text on standard input, a line for each of the flags 0 to 7 on standard output.
 #![tactic(auto)]
 
-fn main() {
+fn main(rt: HostRuntime) {
     let mut kept = [0u8; typed_text::KEPT_LENGTH];
     let mut text = [0u8; frames::TEXT_LENGTH];
-    typed_text::run(os::arg_count(), &mut kept, &mut text);
+    typed_text::run(
+        frames::word_count(&rt),
+        &mut rt.stdin(),
+        &mut rt.stdout(),
+        &mut rt.stderr(),
+        &mut kept,
+        &mut text,
+    );
 }

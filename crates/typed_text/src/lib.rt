@@ -11,9 +11,10 @@ ghost use Rattle.frames.specs.Lines.{eight_lines};
 ghost use Rattle.typed_text.specs.Diagnosis.{is_newline, line_number, line_start, line_end, plain, shown, blank, shown_as, shown_from, reason, place, heading, diagnosis, shown_length, place_length, reason_length, heading_length};
 ghost use Rattle.typed_text.specs.Showing.{ShownAs, Stand, Kept, Runs};
 
-use frames::{Ran, TextBytes, lines, print, put_at, put_number_at, refusal_lines};
+use frames::{Ran, TextBytes, lines, print, put_at, put_number_at, refusal_lines, write_error};
 use limits::{MOST_TEXT, RECORD_LENGTH, TEXT_TOO_LONG, TEXT_TRAY_LENGTH, UNREADABLE_TEXT};
 use reader::{Reading, read_text};
+use std::io::{Read, Write};
 
 // One byte more than the longest text: it tells that a text is too long.
 pub const KEPT_LENGTH: usize = MOST_TEXT + 1;
@@ -305,36 +306,32 @@ pub fn show(text: &mut TextBytes, rules: &[u8]) -> Shown
     }
 }
 
-// Reads standard input until it ends or as many bytes are kept as have room.
-fn read_all(kept: &mut [u8]) -> Input
+// Reads the input until it ends or as many bytes are kept as have room.
+fn read_all<R: Read>(input: &mut R, kept: &mut [u8]) -> Input
     ensures { Kept kept.new result }
 {
     let mut seen: usize = 0;
     while seen < kept.len() {
-        let got = libc::read(libc::STDIN_FILENO, &mut kept[seen..]);
-        if got < 0 {
-            return Input::Failed;
+        match input.read(&mut kept[seen..]) {
+            Err(_) => return Input::Failed,
+            Ok(0) => return Input::Seen { seen },
+            Ok(n) => seen += n,
         }
-        let n = io::count(got, &kept[seen..]);
-        if n == 0 {
-            return Input::Seen { seen };
-        }
-        seen += n;
     }
     Input::Seen { seen }
 }
 
-// Writes on standard error where a text is garbled.
-fn report(rules: &[u8], at: usize)
+// Writes where a text is garbled.
+fn report<E: Write>(errors: &mut E, rules: &[u8], at: usize)
     requires { (at ≤ length rules.now) × (length rules.now ≤ most_text) }
 {
     let mut out = [0u8; DIAGNOSIS_LENGTH];
     let n = diagnose(&mut out, rules, at);
-    io::write_all(libc::STDERR_FILENO, &out[..n]);
+    write_error(errors, &out[..n]);
 }
 
-// The lines of the bytes kept; of a garbled text, on standard error, also where it is.
-fn answer_text(kept: &[u8], seen: usize, text: &mut TextBytes) -> usize
+// The lines of the bytes kept; of a garbled text, on `errors`, also where it is.
+fn answer_text<E: Write>(errors: &mut E, kept: &[u8], seen: usize, text: &mut TextBytes) -> usize
     requires { IsPrefixLen seen kept.now }
     ensures { Stand (take seen kept.now) text.new result }
 {
@@ -343,47 +340,60 @@ fn answer_text(kept: &[u8], seen: usize, text: &mut TextBytes) -> usize
     match shown {
         Shown::Lines { printed } => printed,
         Shown::Unreadable { printed, at } => {
-            report(rules, at);
+            report(errors, rules, at);
             printed
         }
     }
 }
 
-// Reads standard input and prints its eight lines. An error is reported on standard error; after a
-// read error nothing is printed on standard output.
-fn answer_input(kept: &mut KeptBytes, text: &mut TextBytes) -> Ran
+// Reads the input and prints its eight lines. An error is reported on `errors`; after a read error
+// nothing is printed on `output`.
+fn answer_input<R: Read, W: Write, E: Write>(
+    input: &mut R,
+    output: &mut W,
+    errors: &mut E,
+    kept: &mut KeptBytes,
+    text: &mut TextBytes,
+) -> Ran
     ensures { Runs kept.new text.new result }
 {
-    match read_all(kept) {
+    match read_all(input, kept) {
         Input::Failed => {
-            io::write_all(libc::STDERR_FILENO, b"standard input cannot be read\n");
+            write_error(errors, b"standard input cannot be read\n");
             Ran::ReadFailed
         }
         Input::Seen { seen } => {
-            let printed = answer_text(kept, seen, text);
-            if print(text, printed) {
+            let printed = answer_text(errors, kept, seen, text);
+            if print(output, text, printed) {
                 return Ran::Done { seen, printed };
             }
-            io::write_all(libc::STDERR_FILENO, b"standard output cannot be written\n");
+            write_error(errors, b"standard output cannot be written\n");
             Ran::WriteFailed { seen, printed }
         }
     }
 }
 
-// The program, started with so many words, its own name among them. With a further word nothing is
-// read or printed; it is reported on standard error.
-pub fn run(words: usize, kept: &mut KeptBytes, text: &mut TextBytes) -> Ran
+// The program, started with so many words, its own name among them: `input`, `output` and `errors`
+// are the standard ones. With a further word nothing is read or printed; it is reported on `errors`.
+pub fn run<R: Read, W: Write, E: Write>(
+    words: usize,
+    input: &mut R,
+    output: &mut W,
+    errors: &mut E,
+    kept: &mut KeptBytes,
+    text: &mut TextBytes,
+) -> Ran
     ensures value { 1 < words → result ≡ Ran.ArgumentGiven }
     ensures kept_unchanged { 1 < words → kept.new ≡ kept.old }
     ensures text_unchanged { 1 < words → text.new ≡ text.old }
     ensures runs { words ≤ 1 → Runs kept.new text.new result }
 {
     if 1 < words {
-        io::write_all(
-            libc::STDERR_FILENO,
+        write_error(
+            errors,
             b"no arguments are taken: typed rules come on standard input (README.md)\n",
         );
         return Ran::ArgumentGiven;
     }
-    answer_input(kept, text)
+    answer_input(input, output, errors, kept, text)
 }

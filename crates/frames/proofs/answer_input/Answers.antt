@@ -6,10 +6,10 @@ use borrow.Author.Rules.{rules}
 use Rattle.frames.proofs.answer_input.Goals as goal
 
 pub lines_of-printed-requires : goal.lines_of-printed-requires
-lines_of-printed-requires c = windowed_counts (subst (Reads _) c.in-Seen.is c.read_all.ensures)
+lines_of-printed-requires g c = windowed_counts (subst (Reads _) c.in-Seen.is c.read_all.ensures)
 
 pub returns-then-print : goal.returns-then-print
-returns-then-print c = printed (subst (Reads _) c.in-Seen.is c.read_all.ensures) c.lines_of-printed.ensures.1
+returns-then-print g c = printed (subst (Reads _) c.in-Seen.is c.read_all.ensures) c.lines_of-printed.ensures.text_after
 
 pub returns-else-print : goal.returns-else-print
-returns-else-print c = printed (subst (Reads _) c.in-Seen.is c.read_all.ensures) c.lines_of-printed.ensures.1
+returns-else-print g c = printed (subst (Reads _) c.in-Seen.is c.read_all.ensures) c.lines_of-printed.ensures.text_after

@@ -12,4 +12,4 @@ pub loop-i-preserved : goal.loop-i-preserved
 loop-i-preserved c = (search rules, copy_next (search rules) (search rules) c.loop-i.invariant.1, search rules)
 
 pub returns : goal.returns
-returns c = (search rules, kept_all c.room-n.ensures (search rules) c.loop-i.invariant.1)
+returns c = record { value = search rules; kept_after = kept_all c.room-n.ensures (search rules) c.loop-i.invariant.1 }

@@ -3,4 +3,4 @@ use borrow.Author.Rules.{rules}
 use Rattle.frames.proofs.line.Goals as goal
 
 pub returns : goal.returns
-returns c = (put_counts c.put_line.ensures.0, c.put_line.ensures.0.holds)
+returns c = record { prefix_len = put_counts c.put_line.ensures.put; text_after = c.put_line.ensures.put.holds }

@@ -10,7 +10,9 @@ pub loop-flags-init : goal.loop-flags-init
 loop-flags-init c = (lines_none _ _, search rules, search rules)
 
 pub loop-flags-preserved : goal.loop-flags-preserved
-loop-flags-preserved c = (lines_next (answers_of _) _ c.loop-flags.invariant.0 c.put_frame-at.ensures.0, search rules, search rules)
+loop-flags-preserved c = (lines_next (answers_of _) _ c.loop-flags.invariant.0 c.put_frame-at.ensures.put, search rules, search rules)
 
 pub returns : goal.returns
-returns c = lines_all _ _ c.loop-flags.invariant.0 (search rules)
+returns c =
+    let all = lines_all _ _ c.loop-flags.invariant.0 (search rules) in
+    record { prefix_len = all.0; text_after = all.1 }

@@ -5,10 +5,10 @@ use borrow.Author.Rules.{rules}
 use Rattle.frames.proofs.print.Goals as goal
 
 pub returns-then-text-printed : goal.returns-then-text-printed
-returns-then-text-printed c = λ _. refl
+returns-then-text-printed g c = λ _. refl
 
 pub slice_bounds-write_all-end : goal.slice_bounds-write_all-end
-slice_bounds-write_all-end c = sym (length-take-le _ _ (search rules))
+slice_bounds-write_all-end g c = sym (length-take-le _ _ (search rules))
 
 pub returns : goal.returns
-returns c = λ h. absurd (omega arith)
+returns g c = λ h. absurd (omega arith)

@@ -4,6 +4,6 @@ use Rattle.frames.proofs.Frames.{put_answer}
 use borrow.Author.Rules.{rules}
 use Rattle.frames.proofs.put_frame.Goals as goal
 
-pub returns : goal.returns
+pub returns-clause-put : goal.returns-clause-put
 unfolding zero_trays
-returns c = (put_answer _ _ _ _ c.prove-answer.ensures.answers refl c.put_line.ensures.0, search rules)
+returns-clause-put c = put_answer _ _ _ _ c.prove-answer.ensures.answers refl c.put_line.ensures.put

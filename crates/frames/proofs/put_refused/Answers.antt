@@ -2,6 +2,6 @@ use Rattle.prover.specs.Said.{said}
 use borrow.Author.Rules.{rules}
 use Rattle.frames.proofs.put_refused.Goals as goal
 
-pub returns : goal.returns
+pub returns-clause-put : goal.returns-clause-put
 unfolding said
-returns c = (c.put_line.ensures.0, search rules)
+returns-clause-put c = c.put_line.ensures.put

@@ -6,16 +6,16 @@ use borrow.Author.Rules.{rules}
 use Rattle.frames.proofs.read_all.Goals as goal
 
 pub loop-reads-init : goal.loop-reads-init
-loop-reads-init c = (windowed_none _ (search rules), search rules)
+loop-reads-init g c = (windowed_none _ (search rules), search rules)
 
 pub returns-in-Failed : goal.returns-in-Failed
-returns-in-Failed c = tt
+returns-in-Failed g c = tt
 
 pub returns-in-Ended : goal.returns-in-Ended
-returns-in-Ended c = subst (ReadsMore _ _) c.in-Ended.is c.read_more.ensures
+returns-in-Ended g c = subst (ReadsMore _ _) c.in-Ended.is c.read_more.ensures
 
 pub loop-reads-preserved : goal.loop-reads-preserved
-loop-reads-preserved c = (subst (ReadsMore _ _) c.in-Seen.is c.read_more.ensures, search rules)
+loop-reads-preserved g c = (subst (ReadsMore _ _) c.in-Seen.is c.read_more.ensures, search rules)
 
 pub returns : goal.returns
-returns c = tt
+returns g c = tt

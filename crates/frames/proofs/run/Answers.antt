@@ -4,7 +4,7 @@ use borrow.Author.Rules.{rules}
 use Rattle.frames.proofs.run.Goals as goal
 
 pub returns-then-words-gt1 : goal.returns-then-words-gt1
-returns-then-words-gt1 c = (λ _. refl, (λ _. refl, (λ _. refl, λ h. omega (arith, h, c.if-words-gt1.true))))
+returns-then-words-gt1 g c = record { value = λ _. refl; kept_unchanged = λ _. refl; text_unchanged = λ _. refl; runs = λ h. omega (arith, h, c.if-words-gt1.true) }
 
 pub returns : goal.returns
-returns c = (λ h. absurd (omega arith), (λ h. absurd (omega arith), (λ h. absurd (omega arith), λ _. c.answer_input.ensures)))
+returns g c = record { value = λ h. absurd (omega arith); kept_unchanged = λ h. absurd (omega arith); text_unchanged = λ h. absurd (omega arith); runs = λ _. c.answer_input.ensures }

@@ -4,4 +4,4 @@ use borrow.Author.Rules.{rules}
 use Rattle.frames_cases.proofs.show_call.Goals as goal
 
 pub slice_bounds-prove-end-2 : goal.slice_bounds-prove-end-2
-slice_bounds-prove-end-2 c = sym (length-take-le _ _ (search rules))
+slice_bounds-prove-end-2 g c = sym (length-take-le _ _ (search rules))

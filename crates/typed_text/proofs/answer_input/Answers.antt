@@ -4,13 +4,13 @@ use borrow.Author.Rules.{rules}
 use Rattle.typed_text.proofs.answer_input.Goals as goal
 
 pub answer_text-printed-requires : goal.answer_text-printed-requires
-answer_text-printed-requires c = subst (Kept _) c.in-Seen.is c.read_all.ensures
+answer_text-printed-requires g c = subst (Kept _) c.in-Seen.is c.read_all.ensures
 
 pub returns-then-print : goal.returns-then-print
-returns-then-print c = c.answer_text-printed.ensures.shows
+returns-then-print g c = c.answer_text-printed.ensures.shows
 
 pub returns-in-Failed : goal.returns-in-Failed
-returns-in-Failed c = tt
+returns-in-Failed g c = tt
 
 pub returns-else-print : goal.returns-else-print
-returns-else-print c = c.answer_text-printed.ensures.shows
+returns-else-print g c = c.answer_text-printed.ensures.shows

@@ -5,10 +5,10 @@ use borrow.Author.Rules.{rules}
 use Rattle.typed_text.proofs.answer_text.Goals as goal
 
 pub report-requires : goal.report-requires
-report-requires c = ((answered _ _ _ c.show-shown.ensures c.in-Unreadable.is).3, (answered _ _ _ c.show-shown.ensures c.in-Unreadable.is).1)
+report-requires g c = ((answered _ _ _ c.show-shown.ensures c.in-Unreadable.is).3, (answered _ _ _ c.show-shown.ensures c.in-Unreadable.is).1)
 
 pub returns-in-Lines : goal.returns-in-Lines
-returns-in-Lines c = subst (ShownAs _ _) c.in-Lines.is c.show-shown.ensures
+returns-in-Lines g c = subst (ShownAs _ _) c.in-Lines.is c.show-shown.ensures
 
 pub returns-in-Unreadable : goal.returns-in-Unreadable
-returns-in-Unreadable c = (subst (ShownAs _ _) c.in-Unreadable.is c.show-shown.ensures).0
+returns-in-Unreadable g c = (subst (ShownAs _ _) c.in-Unreadable.is c.show-shown.ensures).0

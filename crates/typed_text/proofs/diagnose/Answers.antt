@@ -3,4 +3,6 @@ use borrow.Author.Rules.{rules}
 use Rattle.typed_text.proofs.diagnose.Goals as goal
 
 pub returns : goal.returns
-returns c = put_diagnosis _ _ c.line_start-start.ensures.0 c.line_end-end.ensures.0 c.put_heading-a.ensures.0 c.put_bytes-b.ensures.0 c.put-c.ensures c.put_bytes-d.ensures.0 c.put.ensures
+returns c =
+    let all = put_diagnosis _ _ c.line_start-start.ensures.0 c.line_end-end.ensures.0 c.put_heading-a.ensures.put c.put_bytes-b.ensures.put c.put-c.ensures c.put_bytes-d.ensures.put c.put.ensures in
+    record { prefix_len = all.0; out_after = all.1 }

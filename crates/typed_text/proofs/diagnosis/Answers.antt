@@ -4,10 +4,10 @@ use borrow.Author.Rules.{rules}
 use Rattle.typed_text.proofs.diagnosis.Goals as goal
 
 pub returns-then-text-at : goal.returns-then-text-at
-returns-then-text-at c = ((omega arith, refl), (λ h _. absurd (omega arith), (λ _. refl, λ _. refl)))
+returns-then-text-at c = record { prefix_len = (omega arith, refl); out_after = λ h _. absurd (omega arith); value = λ _. refl; value_2 = λ _. refl }
 
 pub returns-then-text-gt-MOST_TEXT : goal.returns-then-text-gt-MOST_TEXT
-returns-then-text-gt-MOST_TEXT c = ((omega arith, refl), (λ _ h. absurd (omega arith), (λ _. refl, λ _. refl)))
+returns-then-text-gt-MOST_TEXT c = record { prefix_len = (omega arith, refl); out_after = λ _ h. absurd (omega arith); value = λ _. refl; value_2 = λ _. refl }
 
 pub returns : goal.returns
-returns c = (c.diagnose.ensures.0, (λ _ _. c.diagnose.ensures.1, (λ h. absurd (omega arith), λ h. absurd (omega arith))))
+returns c = record { prefix_len = c.diagnose.ensures.prefix_len; out_after = λ _ _. c.diagnose.ensures.out_after; value = λ h. absurd (omega arith); value_2 = λ h. absurd (omega arith) }

@@ -3,5 +3,5 @@ use Rattle.typed_text.proofs.Marks.{put_heading}
 use borrow.Author.Rules.{rules}
 use Rattle.typed_text.proofs.put_heading.Goals as goal
 
-pub returns : goal.returns
-returns c = (put_heading _ _ c.line_number-number.ensures c.requires.1 refl refl c.put_place-a.ensures.0 c.put_reason.ensures.0, search rules)
+pub returns-clause-put : goal.returns-clause-put
+returns-clause-put c = put_heading _ _ c.line_number-number.ensures c.requires.start_value refl refl c.put_place-a.ensures.put c.put_reason.ensures.put

@@ -2,5 +2,5 @@ use Rattle.typed_text.proofs.Marks.{put_place}
 use borrow.Author.Rules.{rules}
 use Rattle.typed_text.proofs.put_place.Goals as goal
 
-pub returns : goal.returns
-returns c = (put_place _ _ c.put-a.ensures c.put_number-b.ensures.0 c.put-c.ensures c.put_number.ensures.0, search rules)
+pub returns-clause-put : goal.returns-clause-put
+returns-clause-put c = put_place _ _ c.put-a.ensures c.put_number-b.ensures.put c.put-c.ensures c.put_number.ensures.put

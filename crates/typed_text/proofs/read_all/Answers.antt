@@ -5,11 +5,11 @@ use lib.ListN.{length}
 use Rattle.typed_text.proofs.Whole.{counted}
 use Rattle.typed_text.proofs.read_all.Goals as goal
 
-pub returns-then-got-lt0 : goal.returns-then-got-lt0
-returns-then-got-lt0 c = tt
+pub returns-in-Err : goal.returns-in-Err
+returns-in-Err g c = tt
 
-pub returns-then-n-eq0 : goal.returns-then-n-eq0
-returns-then-n-eq0 c = counted _ _ (search rules)
+pub returns-in-Ok-eq0 : goal.returns-in-Ok-eq0
+returns-in-Ok-eq0 g c = counted _ _ (search rules)
 
 pub returns : goal.returns
-returns c = counted _ _ (search rules)
+returns g c = counted _ _ (search rules)
