@@ -41,7 +41,6 @@ use Rattle.graph.specs.Drawn.{Drawn}
 use Rattle.tree.specs.Lay.{Lays, Held, held, too_many}
 use Rattle.tree.specs.declared.ProofTreeNodeID.{ProofTreeNodeID}
 use Rattle.tree.proofs.Nodes.{held_ok, held_lays}
-use Rattle.queue.specs.declared.Popped.{Popped}
 use Rattle.queue.specs.declared.Popped.TheVariants as P
 use Rattle.queue.specs.Taking.{answer, afterwards}
 use Rattle.rules.specs.declared.Expanded.{Expanded}

@@ -11,13 +11,13 @@ use lib.Pow.{pow_mono}
 use borrow.Author.Tests.{leb-true, ltb-true}
 use lib.ListN.{length}
 use Rattle.definition.specs.Limits.{most_identifiers, world_limit, graph_width}
-use Rattle.definition.specs.Lists.{Each, empty, below}
+use Rattle.definition.specs.Lists.{Each, empty}
 use Rattle.definition.specs.Records.{Rec, decode}
 use Rattle.definition.specs.Setting.{Setting, setting_of}
 use Rattle.definition.specs.Checks.{Lengths}
 use Rattle.definition.specs.Tree.{Node, Place, Left, Middle, Right, Root, Unplaced, childless, is_leaf, node_at, child_at}
 use Rattle.definition.specs.Graph.{initialize_graph_if_needed}
-use Rattle.definition.specs.Run.{State, ended, full, stops, steps, unlimited_run, start, final}
+use Rattle.definition.specs.Run.{State, ended, full, stops, unlimited_run, start, final}
 use Rattle.definition.specs.Trays.{row_number, trays_of}
 use Rattle.definition.specs.Fits.{RecordFits, Sized}
 use Rattle.definition.specs.Claim.{Demand3}

@@ -2,7 +2,6 @@ use Rattle.arrays.proofs.Listed.{listed_get, listed_count}
 use native.Mathlib.Omega.{arith}
 use mathlib.Core.Path.{refl, sym}
 use lib.ListN.{get_or-eq_default}
-use borrow.Author.Rules.{rules}
 use Rattle.arrays.proofs.nth.Goals as goal
 
 pub returns-then-k-ge-MOST_IDENTIFIERS : goal.returns-then-k-ge-MOST_IDENTIFIERS

@@ -1,5 +1,4 @@
 use Rattle.arrays.proofs.Listed.{listed_over, listed_push}
-use borrow.Author.Rules.{rules}
 use Rattle.arrays.proofs.push.Goals as goal
 
 pub returns-then-n-ge-MOST_IDENTIFIERS : goal.returns-then-n-ge-MOST_IDENTIFIERS

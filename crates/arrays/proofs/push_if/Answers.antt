@@ -1,5 +1,4 @@
 use mathlib.Core.List.{append-nil}
-use borrow.Author.Rules.{rules}
 use Rattle.arrays.proofs.push_if.Goals as goal
 
 pub returns-then-keep : goal.returns-then-keep

@@ -1,11 +1,7 @@
-use borrow.Author.Rules.{rules}
-use Prim.Native.Nat.{ℕ, ◌≤◌, ◌-◌}
-use mathlib.Core.Path.{◌≡◌, refl}
-use mathlib.Core.List.{List}
+use mathlib.Core.Path.{refl}
 use mathlib.Core.Logic.{⊎_elim}
 use native.Mathlib.Omega.{arith}
-use Rattle.arrays.specs.Listed.{Listed}
-use Rattle.arrays.proofs.Gap.{moved, gap_begin, gap_step, gap_end}
+use Rattle.arrays.proofs.Gap.{gap_begin, gap_step, gap_end}
 use Rattle.arrays.proofs.remove.Goals as goal
 
 pub returns-then-n-gt-MOST_IDENTIFIERS : goal.returns-then-n-gt-MOST_IDENTIFIERS

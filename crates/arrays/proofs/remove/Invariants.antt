@@ -1,11 +1,8 @@
-use borrow.Author.Rules.{rules}
 use Prim.Native.Nat.{ℕ, ◌≤◌, ◌-◌}
-use mathlib.Core.Path.{◌≡◌, refl}
+use mathlib.Core.Path.{◌≡◌}
 use mathlib.Core.List.{List}
-use mathlib.Core.Logic.{⊎_elim}
-use native.Mathlib.Omega.{arith}
 use Rattle.arrays.specs.Listed.{Listed}
-use Rattle.arrays.proofs.Gap.{moved, gap_begin, gap_step, gap_end}
+use Rattle.arrays.proofs.Gap.{moved}
 use Rattle.arrays.proofs.remove.Given as goal
 
 -- After each turn the entries from i up to j are those one further on, and the others are as they were; the last one is then zero.

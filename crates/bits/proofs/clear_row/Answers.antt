@@ -1,9 +1,5 @@
-use Prim.Native.Nat.{ℕ, ◌+◌, ◌*◌, ◌-◌, ◌≤◌}
-use mathlib.Core.Bool.{Bool}
 use borrow.Author.Rules.{rules}
-use Rattle.limits.specs.Arrays.{row_words}
-use Rattle.bits.specs.Bits.{Bits}
-use Rattle.bits.proofs.Laws.{without, row_out, row_start, row_next, row_end}
+use Rattle.bits.proofs.Laws.{row_out, row_start, row_next, row_end}
 use Rattle.bits.proofs.clear_row.Goals as goal
 
 pub returns-then-row-ge-MOST_IDENTIFIERS : goal.returns-then-row-ge-MOST_IDENTIFIERS

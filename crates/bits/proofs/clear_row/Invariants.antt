@@ -1,9 +1,8 @@
 use Prim.Native.Nat.{ℕ, ◌+◌, ◌*◌, ◌-◌, ◌≤◌}
 use mathlib.Core.Bool.{Bool}
-use borrow.Author.Rules.{rules}
 use Rattle.limits.specs.Arrays.{row_words}
 use Rattle.bits.specs.Bits.{Bits}
-use Rattle.bits.proofs.Laws.{without, row_out, row_start, row_next, row_end}
+use Rattle.bits.proofs.Laws.{without}
 use Rattle.bits.proofs.clear_row.Given as goal
 
 -- After each turn the set is the one at the start without the numbers of the row whose words stand before k; at the last word the whole row is out.

@@ -1,7 +1,6 @@
 use mathlib.Core.Path.{◌∙◌}
 use borrow.Author.Tests.{le-ltb}
 use Rattle.bits.proofs.Laws.{bits_has}
-use borrow.Author.Rules.{rules}
 use Rattle.bits.proofs.contains.Goals as goal
 
 pub returns-then-i-ge-LEAF_COUNT : goal.returns-then-i-ge-LEAF_COUNT

@@ -1,5 +1,4 @@
 use Rattle.bits.proofs.Laws.{insert_out, insert_in}
-use borrow.Author.Rules.{rules}
 use Rattle.bits.proofs.insert.Goals as goal
 
 pub returns-then-i-ge-LEAF_COUNT : goal.returns-then-i-ge-LEAF_COUNT

@@ -1,5 +1,4 @@
 use mathlib.Core.Path.{refl}
-use borrow.Author.Rules.{rules}
 use Rattle.bits.proofs.with_bit_if.Goals as goal
 
 pub returns-then-keep : goal.returns-then-keep

@@ -1,4 +1,3 @@
-use borrow.Author.Rules.{rules}
 use Rattle.branch.proofs.Begun.{queued}
 use Rattle.branch.proofs.begin_queue.Goals as goal
 

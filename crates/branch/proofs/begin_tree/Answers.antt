@@ -1,4 +1,3 @@
-use borrow.Author.Rules.{rules}
 use Rattle.branch.proofs.Begun.{rooted_linked}
 use Rattle.branch.proofs.begin_tree.Goals as goal
 

@@ -1,15 +1,8 @@
 use borrow.Author.Rules.{rules}
 use mathlib.Core.Path.{refl}
-use Prim.Native.Nat.{◌≤◌, ◌-◌}
-use mathlib.Core.List.{List, []}
 use native.Mathlib.Omega.{arith}
-use Rattle.definition.specs.Limits.{most_formulas}
-use Rattle.definition.specs.Records.{Rec}
-use Rattle.formula.specs.Recorded.{Recorded}
-use Rattle.tree.specs.Chain.{DrawnFrom}
-use Rattle.tree.specs.Lay.{Held}
 use Rattle.tree.proofs.Chains.{drawn_none}
-use Rattle.branch.proofs.Begun.{Beginning, beginning_start, beginning_next, beginning_end}
+use Rattle.branch.proofs.Begun.{beginning_start, beginning_next, beginning_end}
 use Rattle.branch.proofs.branch_nodes.Goals as goal
 
 pub loop-i-init : goal.loop-i-init

@@ -1,15 +1,11 @@
-use borrow.Author.Rules.{rules}
-use mathlib.Core.Path.{refl}
 use Prim.Native.Nat.{◌≤◌, ◌-◌}
 use mathlib.Core.List.{List, []}
-use native.Mathlib.Omega.{arith}
 use Rattle.definition.specs.Limits.{most_formulas}
 use Rattle.definition.specs.Records.{Rec}
 use Rattle.formula.specs.Recorded.{Recorded}
 use Rattle.tree.specs.Chain.{DrawnFrom}
 use Rattle.tree.specs.Lay.{Held}
-use Rattle.tree.proofs.Chains.{drawn_none}
-use Rattle.branch.proofs.Begun.{Beginning, beginning_start, beginning_next, beginning_end}
+use Rattle.branch.proofs.Begun.{Beginning}
 use Rattle.branch.proofs.branch_nodes.Given as goal
 
 -- After i turns the nodes made so far, which are the chain's, and those that the records from i on still give are all nodes of the branch.

@@ -1,11 +1,8 @@
 use borrow.Author.Rules.{rules}
-use Prim.Native.Nat.{◌≤◌, ◌-◌}
 use mathlib.Core.Path.{refl}
-use mathlib.Core.List.{[]}
 use native.Mathlib.Omega.{arith}
 use Rattle.checks.specs.Checked.{record_of}
-use Rattle.formula.specs.Recorded.{Recorded}
-use Rattle.branch.proofs.Reading.{Reading, reading_start, reading_next, reading_end}
+use Rattle.branch.proofs.Reading.{reading_start, reading_next, reading_end}
 use Rattle.branch.proofs.read_records.Goals as goal
 
 pub loop-i-init : goal.loop-i-init

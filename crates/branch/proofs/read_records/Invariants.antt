@@ -1,11 +1,7 @@
-use borrow.Author.Rules.{rules}
 use Prim.Native.Nat.{◌≤◌, ◌-◌}
-use mathlib.Core.Path.{refl}
 use mathlib.Core.List.{[]}
-use native.Mathlib.Omega.{arith}
-use Rattle.checks.specs.Checked.{record_of}
 use Rattle.formula.specs.Recorded.{Recorded}
-use Rattle.branch.proofs.Reading.{Reading, reading_start, reading_next, reading_end}
+use Rattle.branch.proofs.Reading.{Reading}
 use Rattle.branch.proofs.read_records.Given as goal
 
 -- After i turns the records written so far and those from i on, which are left, are all records of the branch.

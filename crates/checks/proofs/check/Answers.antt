@@ -1,5 +1,4 @@
 use mathlib.Core.Path.{refl, sym, ◌∙◌}
-use borrow.Author.Rules.{rules}
 use Rattle.checks.specs.Checked.{lengths}
 use Rattle.checks.proofs.Found.{refused_before, few_records, refused_record, refused_marks}
 use Rattle.checks.proofs.check.Goals as goal

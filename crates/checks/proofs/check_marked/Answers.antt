@@ -1,4 +1,3 @@
-use borrow.Author.Rules.{rules}
 use borrow.Author.Tests.{lt-ltb, le-ltb}
 use Rattle.definition.specs.Limits.{most_marked}
 use Rattle.checks.proofs.Found.{empty_none, empty_some}

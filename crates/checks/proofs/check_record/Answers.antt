@@ -1,4 +1,3 @@
-use borrow.Author.Rules.{rules}
 use borrow.Author.Tests.{lt-ltb, le-ltb}
 use Rattle.checks.proofs.Bytes.{kind_unknown, kind_known}
 use Rattle.checks.proofs.check_record.Goals as goal

@@ -1,10 +1,7 @@
 use borrow.Author.Rules.{rules}
-use Prim.Native.Nat.{◌≤◌, ◌-◌, ◌/◌}
-use mathlib.Core.Path.{◌≡◌, sym, ◌∙◌}
+use mathlib.Core.Path.{sym, ◌∙◌}
 use native.Mathlib.Omega.{arith}
-use lib.ListN.{length}
-use Rattle.definition.specs.Limits.{record_length, most_records}
-use Rattle.checks.proofs.Reading.{record_small, Reading, reading_start, reading_refused, reading_next, reading_end}
+use Rattle.checks.proofs.Reading.{record_small, reading_start, reading_refused, reading_next, reading_end}
 use Rattle.checks.proofs.check_records.Goals as goal
 
 pub loop-i-init : goal.loop-i-init

@@ -1,10 +1,8 @@
-use borrow.Author.Rules.{rules}
 use Prim.Native.Nat.{◌≤◌, ◌-◌, ◌/◌}
-use mathlib.Core.Path.{◌≡◌, sym, ◌∙◌}
-use native.Mathlib.Omega.{arith}
+use mathlib.Core.Path.{◌≡◌}
 use lib.ListN.{length}
 use Rattle.definition.specs.Limits.{record_length, most_records}
-use Rattle.checks.proofs.Reading.{record_small, Reading, reading_start, reading_refused, reading_next, reading_end}
+use Rattle.checks.proofs.Reading.{Reading}
 use Rattle.checks.proofs.check_records.Given as goal
 
 -- After i turns no check applies to the first i records, and `sizes` has their sizes.

@@ -1,6 +1,5 @@
 use mathlib.Core.Path.{◌∙◌}
 use mathlib.Core.List.{◌++◌}
-use borrow.Author.Rules.{rules}
 use Rattle.definition.specs.Checks.{sheet_checks, flag_checks, tray_checks}
 use Rattle.checks.specs.Checked.{lengths}
 use Rattle.checks.proofs.Found.{found_both}

@@ -1,4 +1,3 @@
-use borrow.Author.Rules.{rules}
 use Rattle.checks.proofs.check_trays.Goals as goal
 
 pub returns-then-is_short : goal.returns-then-is_short

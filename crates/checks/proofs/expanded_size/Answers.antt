@@ -1,5 +1,4 @@
 use native.Mathlib.Omega.{arith}
-use borrow.Author.Rules.{rules}
 use Rattle.definition.specs.Checks.{expanded_size}
 use Rattle.checks.proofs.Bytes.{links_none, links_one, links_both}
 use Rattle.checks.proofs.expanded_size.Goals as goal

@@ -1,4 +1,3 @@
-use borrow.Author.Rules.{rules}
 use borrow.Author.Tests.{lt-ltb, le-ltb}
 use Rattle.checks.specs.Checked.{record_of}
 use Rattle.checks.proofs.is_stray.Goals as goal

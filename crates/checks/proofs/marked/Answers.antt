@@ -1,11 +1,7 @@
 use borrow.Author.Rules.{rules}
-use Prim.Native.Nat.{◌≤◌, ◌-◌, ◌/◌}
-use mathlib.Core.Path.{◌≡◌}
 use mathlib.Core.Logic.{inl, inr}
 use native.Mathlib.Omega.{arith}
-use lib.ListN.{length}
-use Rattle.definition.specs.Limits.{record_length, most_records}
-use Rattle.checks.proofs.Reading.{Counting, counting_start, counting_next, counting_end}
+use Rattle.checks.proofs.Reading.{counting_start, counting_next, counting_end}
 use Rattle.checks.proofs.marked.Goals as goal
 use Rattle.checks.proofs.marked.Goals.{then-x-eq1, else-x-eq1}
 

@@ -1,11 +1,8 @@
-use borrow.Author.Rules.{rules}
 use Prim.Native.Nat.{◌≤◌, ◌-◌, ◌/◌}
 use mathlib.Core.Path.{◌≡◌}
-use mathlib.Core.Logic.{inl, inr, ⊎_elim}
-use native.Mathlib.Omega.{arith}
 use lib.ListN.{length}
 use Rattle.definition.specs.Limits.{record_length, most_records}
-use Rattle.checks.proofs.Reading.{Counting, counting_start, counting_next, counting_end}
+use Rattle.checks.proofs.Reading.{Counting}
 use Rattle.checks.proofs.marked.Given as goal
 
 -- After i turns n is how many of the first i records are marked.

@@ -1,4 +1,3 @@
-use borrow.Author.Rules.{rules}
 use Rattle.definition.specs.Checks.{non_zero_field}
 use Rattle.checks.specs.Checked.{record_of}
 use Rattle.checks.proofs.Bytes.{links_both, links_few}

@@ -1,5 +1,4 @@
 use mathlib.Core.Path.{sym, ◌∙◌}
-use borrow.Author.Rules.{rules}
 use Rattle.checks.specs.Checked.{check_of}
 use Rattle.checks.proofs.Found.{or_first, or_second}
 use Rattle.checks.proofs.or_else.Goals as goal

@@ -1,6 +1,5 @@
 use native.Mathlib.Omega.{arith}
 use mathlib.Core.Path.{refl}
-use borrow.Author.Rules.{rules}
 use Rattle.checks.proofs.Bytes.{read_record}
 use Rattle.checks.proofs.record_at.Goals as goal
 

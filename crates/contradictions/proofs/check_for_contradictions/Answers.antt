@@ -1,4 +1,3 @@
-use borrow.Author.Rules.{rules}
 use native.Mathlib.Omega.{arith}
 use Rattle.contradictions.proofs.Marks.{marked_full, checked_still, checked_open, checked_closed}
 use Rattle.contradictions.proofs.check_for_contradictions.Goals as goal

@@ -1,15 +1,5 @@
-use borrow.Author.Rules.{rules}
-use mathlib.Core.Path.{◌≡◌, refl, ◌∙◌}
-use mathlib.Core.List.{List}
-use Prim.Native.Nat.{◌≤◌, ◌-◌}
-use lib.ListN.{length}
-use Rattle.definition.specs.Limits.{most_formulas}
-use Rattle.definition.specs.Records.{Rec, formula_of}
-use Rattle.definition.specs.Tree.{Node, node_at}
-use Rattle.formula.specs.Recorded.{Recorded}
-use Rattle.semantics.specs.Literal.{Claims}
-use Rattle.tree.specs.Lay.{Lays}
-use Rattle.contradictions.proofs.Search.{Seeking, seeking_start, seeking_none, seeking_next, seeking_end}
+use mathlib.Core.Path.{refl, ◌∙◌}
+use Rattle.contradictions.proofs.Search.{seeking_start, seeking_none, seeking_next, seeking_end}
 use Rattle.contradictions.proofs.find_above.Goals as goal
 
 pub loop-k-init : goal.loop-k-init

@@ -1,5 +1,4 @@
-use borrow.Author.Rules.{rules}
-use mathlib.Core.Path.{◌≡◌, refl, ◌∙◌}
+use mathlib.Core.Path.{◌≡◌}
 use mathlib.Core.List.{List}
 use Prim.Native.Nat.{◌≤◌, ◌-◌}
 use lib.ListN.{length}
@@ -9,7 +8,7 @@ use Rattle.definition.specs.Tree.{Node, node_at}
 use Rattle.formula.specs.Recorded.{Recorded}
 use Rattle.semantics.specs.Literal.{Claims}
 use Rattle.tree.specs.Lay.{Lays}
-use Rattle.contradictions.proofs.Search.{Seeking, seeking_start, seeking_none, seeking_next, seeking_end}
+use Rattle.contradictions.proofs.Search.{Seeking}
 use Rattle.contradictions.proofs.find_above.Given as goal
 
 -- At every turn the node sought is the first from the root among what is left of the path, and where none is left the last one met.

@@ -1,4 +1,3 @@
-use borrow.Author.Rules.{rules}
 use Rattle.contradictions.proofs.Search.{no_literal, claims_as}
 use Rattle.contradictions.proofs.find_earlier.Goals as goal
 

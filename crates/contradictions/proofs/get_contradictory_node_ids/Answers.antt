@@ -1,17 +1,5 @@
-use borrow.Author.Rules.{rules}
-use Prim.Native.Nat.{◌≤◌, ◌-◌}
-use mathlib.Core.Path.{◌≡◌}
-use mathlib.Core.List.{List}
 use native.Mathlib.Omega.{arith}
-use lib.ListN.{length}
-use Rattle.definition.specs.Limits.{most_formulas}
-use Rattle.definition.specs.Records.{Rec}
-use Rattle.definition.specs.Tree.{Node}
-use Rattle.definition.specs.TreeShape.{spots, In}
-use Rattle.definition.specs.Shortcuts.{NoPairAbove}
-use Rattle.formula.specs.Recorded.{Recorded}
-use Rattle.tree.specs.Lay.{Lays}
-use Rattle.contradictions.proofs.Search.{Searching, searching_start, searching_none, searching_old, searching_hit, searching_next, searching_end}
+use Rattle.contradictions.proofs.Search.{searching_start, searching_none, searching_old, searching_hit, searching_next, searching_end}
 use Rattle.contradictions.proofs.get_contradictory_node_ids.Goals as goal
 
 pub loop-k-init : goal.loop-k-init

@@ -1,8 +1,6 @@
-use borrow.Author.Rules.{rules}
 use Prim.Native.Nat.{◌≤◌, ◌-◌}
 use mathlib.Core.Path.{◌≡◌}
 use mathlib.Core.List.{List}
-use native.Mathlib.Omega.{arith}
 use lib.ListN.{length}
 use Rattle.definition.specs.Limits.{most_formulas}
 use Rattle.definition.specs.Records.{Rec}
@@ -11,7 +9,7 @@ use Rattle.definition.specs.TreeShape.{spots, In}
 use Rattle.definition.specs.Shortcuts.{NoPairAbove}
 use Rattle.formula.specs.Recorded.{Recorded}
 use Rattle.tree.specs.Lay.{Lays}
-use Rattle.contradictions.proofs.Search.{Searching, searching_start, searching_none, searching_old, searching_hit, searching_next, searching_end}
+use Rattle.contradictions.proofs.Search.{Searching}
 use Rattle.contradictions.proofs.get_contradictory_node_ids.Given as goal
 
 -- At every turn the pair of the node reached is that of the leaf, since no node passed has an earlier one that contradicts it; the path of an old node has none.

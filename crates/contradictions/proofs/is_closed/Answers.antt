@@ -1,4 +1,3 @@
-use borrow.Author.Rules.{rules}
 use Rattle.arrays.proofs.Listed.{listed_none}
 use Rattle.contradictions.proofs.Marks.{empty_listed}
 use Rattle.contradictions.proofs.is_closed.Goals as goal

@@ -1,4 +1,3 @@
-use borrow.Author.Rules.{rules}
 use Rattle.definition.specs.Contradiction.{is_pair}
 use Rattle.contradictions.proofs.is_pair.Goals as goal
 

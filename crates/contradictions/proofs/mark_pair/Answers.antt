@@ -1,4 +1,3 @@
-use borrow.Author.Rules.{rules}
 use Rattle.definition.specs.Contradiction.{mark}
 use Rattle.contradictions.proofs.mark_pair.Goals as goal
 

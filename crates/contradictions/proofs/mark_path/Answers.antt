@@ -1,4 +1,3 @@
-use borrow.Author.Rules.{rules}
 use Rattle.tree.proofs.Nodes.{held_ok, held_lays}
 use Rattle.contradictions.proofs.Marks.{path_loose, path_inner, path_marked}
 use Rattle.contradictions.proofs.mark_path.Goals as goal

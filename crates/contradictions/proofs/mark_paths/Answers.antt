@@ -1,16 +1,7 @@
-use borrow.Author.Rules.{rules}
-use Prim.Native.Nat.{◌≤◌, ◌-◌}
-use mathlib.Core.List.{List}
 use mathlib.Core.Path.{◌∙◌}
 use native.Mathlib.Omega.{arith}
-use Rattle.definition.specs.Limits.{most_identifiers, most_formulas}
-use Rattle.definition.specs.Records.{Rec}
-use Rattle.definition.specs.Tree.{Node}
-use Rattle.definition.specs.Shortcuts.{NoPairAbove}
-use Rattle.formula.specs.Recorded.{Recorded}
-use Rattle.tree.specs.Lay.{Held}
 use Rattle.tree.proofs.Sequence.{id_fits}
-use Rattle.contradictions.proofs.Marks.{Marking, marking_start, marking_next, marking_end}
+use Rattle.contradictions.proofs.Marks.{marking_start, marking_next, marking_end}
 use Rattle.contradictions.proofs.mark_paths.Goals as goal
 
 pub loop-k-init : goal.loop-k-init

@@ -1,4 +1,3 @@
-use borrow.Author.Rules.{rules}
 use Rattle.contradictions.proofs.pair_with.Goals as goal
 
 pub returns-then-is_none : goal.returns-then-is_none

@@ -23,7 +23,6 @@ use Rattle.definition.specs.Trays.{Trays, laid_over}
 use Rattle.definition.specs.Call
 use Rattle.definition.specs.Call.{Outcome, outcome, answer_of, answer, trays_after, trays_left, late, lengths_of}
 use Rattle.definition.specs.Cases.{Case, bytes, listing, table, contradictory_from, contradictory_in, Starred, listing_trays, ListingTrays}
-use Rattle.definition.specs.Refusals
 use Rattle.definition.specs.Refusals.{exactly, Refusals}
 use Rattle.definition.proofs.Call.Outcomes.{long_outcome}
 

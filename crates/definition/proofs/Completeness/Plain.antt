@@ -36,7 +36,6 @@ use Rattle.definition.proofs.Run.Counting.{known_taken}
 use Rattle.definition.proofs.Tree.Labels.{Every, every_append, every_result, every_marks, rooted_every}
 use Rattle.definition.proofs.Run.Accepted.{Accepted}
 use Rattle.definition.proofs.Basics.Forms.{form_append}
-use Rattle.definition.proofs.Soundness.Priest
 use Rattle.definition.proofs.Soundness.Priest.{rule_is_priest, rule_known, made_two}
 use Rattle.definition.proofs.Soundness.Theorem.{demand_3}
 use Rattle.definition.proofs.Call.Room.{Fit, fit_start, fit_step, ready}

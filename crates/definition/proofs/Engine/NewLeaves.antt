@@ -26,7 +26,7 @@ use Rattle.definition.proofs.Tree.Linking.{bare_room}
 use Rattle.definition.proofs.Run.Stepping.{not_stopped}
 use Rattle.definition.proofs.Run.TreeKept.{marks_keep}
 use Rattle.definition.proofs.Call.Room.{Fit, ready}
-use Rattle.definition.specs.Shortcuts.{partner, pair_of, RightMarks, earlier, bare_at, pair_at, new_pairs, closed_at, NoPairAbove, CheckedAt}
+use Rattle.definition.specs.Shortcuts.{partner, pair_of, RightMarks, bare_at, pair_at, new_pairs, closed_at, NoPairAbove, CheckedAt}
 use Rattle.definition.proofs.Paths.Pairs.{climbing, path_below, path_root, marks_same, Stem, appended_grown, grown_in, appended_same}
 use Rattle.definition.proofs.Paths.Takers.{closed, leaf_by, bare_before}
 use Rattle.definition.proofs.Paths.Marks.{leaf_listed, leaf_each, each_from, pair_partner, Done, Exact, exact_mark, done_one, done_all, pair_exact, leaves_exact, marks_checked, Checked, closed_pair, open_none, marks_leaves, old_in, appended_hung, appended_right, MarksRight}

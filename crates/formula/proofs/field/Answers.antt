@@ -1,6 +1,5 @@
 use Rattle.formula.proofs.Recorded.{read_far, read_at}
 use native.Mathlib.Omega.{arith}
-use borrow.Author.Rules.{rules}
 use Rattle.formula.proofs.field.Goals as goal
 
 pub returns-then-count-i : goal.returns-then-count-i

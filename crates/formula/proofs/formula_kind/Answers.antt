@@ -1,7 +1,6 @@
 use mathlib.Core.Path.{ap, sym, ◌∙◌}
 use Rattle.definition.specs.Records.{Rec, number_of}
 use Rattle.formula.proofs.Numbers.{formula_comment, formula_record}
-use borrow.Author.Rules.{rules}
 use Rattle.formula.proofs.formula_kind.Goals as goal
 
 pub returns-then-f : goal.returns-then-f

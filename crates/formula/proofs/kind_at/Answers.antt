@@ -1,7 +1,6 @@
 use mathlib.Core.Path.{refl}
 use Rattle.definition.specs.Records.{number_of}
 use native.Mathlib.Omega.{arith}
-use borrow.Author.Rules.{rules}
 use Rattle.formula.proofs.kind_at.Goals as goal
 
 pub returns : goal.returns

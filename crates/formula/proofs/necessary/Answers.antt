@@ -1,5 +1,4 @@
 use Rattle.definition.specs.Records.{kind_of}
-use borrow.Author.Rules.{rules}
 use Rattle.formula.proofs.necessary.Goals as goal
 
 pub returns : goal.returns

@@ -1,5 +1,4 @@
 use Rattle.formula.proofs.Numbers.{class_of}
-use borrow.Author.Rules.{rules}
 use Rattle.formula.proofs.priority_of.Goals as goal
 
 pub returns : goal.returns

@@ -1,5 +1,4 @@
 use Rattle.formula.proofs.Recorded.{push_over, push_at}
-use borrow.Author.Rules.{rules}
 use Rattle.formula.proofs.push_input.Goals as goal
 
 pub returns-then-count-ge-MOST_FORMULAS : goal.returns-then-count-ge-MOST_FORMULAS

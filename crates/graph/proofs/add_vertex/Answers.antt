@@ -1,7 +1,6 @@
 use mathlib.Core.Path.{◌∙◌}
 use mathlib.Core.Logic.{inl, inr}
 use Rattle.graph.proofs.Grid.{grid_set, grid_out}
-use borrow.Author.Rules.{rules}
 use Rattle.graph.proofs.add_vertex.Goals as goal
 
 pub returns-then-from-ge-GRAPH_WIDTH : goal.returns-then-from-ge-GRAPH_WIDTH

@@ -2,7 +2,6 @@ use mathlib.Core.Path.{sym}
 use mathlib.Core.Logic.{inl, inr}
 use native.Mathlib.Omega.{arith}
 use Rattle.graph.proofs.Drawn.{drawn_out, drawn_cell}
-use borrow.Author.Rules.{rules}
 use Rattle.graph.proofs.contains.Goals as goal
 
 pub returns-then-from-ge-GRAPH_WIDTH : goal.returns-then-from-ge-GRAPH_WIDTH

@@ -1,7 +1,6 @@
 use mathlib.Core.Path.{refl}
 use native.Mathlib.Omega.{arith}
 use Rattle.graph.proofs.Forks.{fork_made}
-use borrow.Author.Rules.{rules}
 use Rattle.graph.proofs.fork_world.Goals as goal
 
 pub returns-then-worlds-ge-GRAPH_WIDTH : goal.returns-then-worlds-ge-GRAPH_WIDTH

@@ -1,5 +1,4 @@
 use Rattle.graph.proofs.Forks.{init_kept, init_made}
-use borrow.Author.Rules.{rules}
 use Rattle.graph.proofs.initialize_graph_if_needed.Goals as goal
 
 pub returns-then-worlds-ne0 : goal.returns-then-worlds-ne0

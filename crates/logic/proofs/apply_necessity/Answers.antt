@@ -13,7 +13,6 @@ use Rattle.logic.proofs.Again.{blank}
 use Rattle.logic.proofs.Forked.{passed, listing_start, before_held, leaves_low}
 use Rattle.logic.proofs.Necessary.{through_fits, through_own, necessity_after}
 use Rattle.setting.specs.Asked.{asked}
-use borrow.Author.Rules.{rules}
 use Rattle.logic.proofs.apply_necessity.Goals as goal
 
 pub returns : goal.returns

@@ -6,7 +6,6 @@ use lib.ListN.{length-replicate}
 use Rattle.definition.specs.Limits.{most_identifiers}
 use Rattle.logic.proofs.Forked.{passed, known_few, forked_at_lem, forked_drawn, forked_held, forked_seen, listing_start, before_held, possibility_after}
 use Rattle.setting.specs.Asked.{asked}
-use borrow.Author.Rules.{rules}
 use Rattle.logic.proofs.apply_possibility.Goals as goal
 
 pub returns : goal.returns

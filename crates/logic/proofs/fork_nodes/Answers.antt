@@ -1,5 +1,4 @@
 use Rattle.logic.proofs.Forked.{two_nodes}
-use borrow.Author.Rules.{rules}
 use Rattle.logic.proofs.fork_nodes.Goals as goal
 
 pub returns : goal.returns

@@ -1,23 +1,12 @@
 use borrow.Author.Rules.{rules}
 use borrow.Author.Rules.{rules}
-use Prim.Native.Nat.{ℕ, ◌≤◌, ◌-◌}
-use mathlib.Core.Path.{◌≡◌}
-use mathlib.Core.List.{List, [], ◌++◌}
-use mathlib.Core.Option.{Option}
+use mathlib.Core.List.{◌++◌}
 use native.Mathlib.Omega.{arith}
-use lib.ListN.{length, drop}
-use Rattle.definition.specs.Limits.{most_identifiers}
-use Rattle.arrays.specs.Listed.{Listed}
 use Rattle.arrays.proofs.Listed.{listed_count}
-use Rattle.bits.specs.Worlds.{worlds_in}
-use Rattle.definition.specs.Lists.{Each}
-use Rattle.definition.specs.Tree.{Node, path}
-use Rattle.definition.specs.Modality.{Necessity, Fork, occurs, give_on}
-use Rattle.tree.specs.Lay.{Held}
-use Rattle.subtree.specs.Items.{Item, Listing}
-use Rattle.modality.specs.Seen.{Seen}
+use Rattle.definition.specs.Tree.{path}
+use Rattle.definition.specs.Modality.{occurs}
 use Rattle.logic.proofs.Listings.{listing_one}
-use Rattle.logic.proofs.Giving.{Giving, giving_start, giving_entry, giving_ends, seen_entry}
+use Rattle.logic.proofs.Giving.{giving_start, giving_entry, giving_ends, seen_entry}
 use Rattle.logic.proofs.give_on.Goals as goal
 
 pub loop-j-init : goal.loop-j-init

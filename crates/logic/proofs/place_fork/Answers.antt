@@ -1,5 +1,4 @@
 use Rattle.logic.proofs.Forked.{fork_placed}
-use borrow.Author.Rules.{rules}
 use Rattle.logic.proofs.place_fork.Goals as goal
 
 pub returns : goal.returns

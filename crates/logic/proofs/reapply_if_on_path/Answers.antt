@@ -7,7 +7,6 @@ use Rattle.bits.specs.Worlds.{worlds_in}
 use Rattle.bits.proofs.Worlds.{worlds_none}
 use Rattle.modality.specs.Seen.{Seen}
 use Rattle.logic.proofs.Reapply.{stands, paths_own, paths_few, paths_seen, gave_full, kept_idle, stack_idle, kept_out, stack_out, kept_in, stack_in}
-use borrow.Author.Rules.{rules}
 use Rattle.logic.proofs.reapply_if_on_path.Goals as goal
 
 pub returns-then-here-gt-MOST_IDENTIFIERS : goal.returns-then-here-gt-MOST_IDENTIFIERS

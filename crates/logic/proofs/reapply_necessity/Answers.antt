@@ -2,7 +2,6 @@ use mathlib.Core.Path.{sym, ◌∙◌}
 use lib.ListN.{get_or}
 use Rattle.arrays.proofs.Listed.{listed_count}
 use Rattle.logic.proofs.Reapply.{gave_again, visiting_nowhere, visiting_some, stack_set, stack_same}
-use borrow.Author.Rules.{rules}
 use Rattle.logic.proofs.reapply_necessity.Goals as goal
 
 pub returns-then-m-eq0 : goal.returns-then-m-eq0

@@ -1,24 +1,12 @@
 use borrow.Author.Rules.{rules}
-use Prim.Native.Nat.{ℕ, ◌+◌, ◌≤◌, ◌<◌, ◌-◌}
+use Prim.Native.Nat.{◌+◌, ◌≤◌, ◌<◌, ◌-◌}
 use mathlib.Core.Path.{◌≡◌}
-use mathlib.Core.List.{List, [], ◌++◌}
-use mathlib.Core.Option.{some}
 use native.Mathlib.Omega.{arith}
 use lib.ListN.{length}
 use Rattle.definition.specs.Limits.{most_identifiers}
-use Rattle.definition.specs.Lists.{Each}
-use Rattle.definition.specs.Graph.{Graph}
-use Rattle.definition.specs.Tree.{Node, leaves}
-use Rattle.definition.specs.Modality.{Necessity, Fork, reapply_necessity_after_possibility}
-use Rattle.definition.specs.TreeShape.{Treed}
 use Rattle.definition.specs.Shortcuts.{ThroughSpawner}
-use Rattle.graph.specs.Drawn.{Drawn}
-use Rattle.tree.specs.Lay.{Held}
-use Rattle.necessities.specs.Stack.{Stack}
-use Rattle.subtree.specs.Items.{Item, Listing}
-use Rattle.modality.specs.Seen.{Seen}
 use Rattle.logic.proofs.Listings.{listing_self}
-use Rattle.logic.proofs.Again.{Again, blank, after, mapped_each, again_start, again_full, again_next, again_end, turned_after}
+use Rattle.logic.proofs.Again.{blank, after, mapped_each, again_start, again_full, again_next, again_end, turned_after}
 use Rattle.logic.proofs.reapply_necessity_after_possibility.Goals as goal
 
 pub loop-i-init : goal.loop-i-init

@@ -1,9 +1,7 @@
-use borrow.Author.Rules.{rules}
-use Prim.Native.Nat.{ℕ, ◌+◌, ◌≤◌, ◌<◌, ◌-◌}
+use Prim.Native.Nat.{ℕ, ◌≤◌, ◌<◌, ◌-◌}
 use mathlib.Core.Path.{◌≡◌}
 use mathlib.Core.List.{List, [], ◌++◌}
 use mathlib.Core.Option.{some}
-use native.Mathlib.Omega.{arith}
 use lib.ListN.{length}
 use Rattle.definition.specs.Limits.{most_identifiers}
 use Rattle.definition.specs.Lists.{Each}
@@ -17,8 +15,7 @@ use Rattle.tree.specs.Lay.{Held}
 use Rattle.necessities.specs.Stack.{Stack}
 use Rattle.subtree.specs.Items.{Item, Listing}
 use Rattle.modality.specs.Seen.{Seen}
-use Rattle.logic.proofs.Listings.{listing_self}
-use Rattle.logic.proofs.Again.{Again, blank, after, mapped_each, again_start, again_full, again_next, again_end, turned_after}
+use Rattle.logic.proofs.Again.{Again}
 use Rattle.logic.proofs.reapply_necessity_after_possibility.Given as goal
 
 -- The necessities before i are done; what they gave and what those from i on still give is all that is to be given. At the end the stack is turned.

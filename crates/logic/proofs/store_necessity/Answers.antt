@@ -6,7 +6,6 @@ use Rattle.tree.proofs.Nodes.{held_as}
 use Rattle.logic.proofs.Reapply.{stands}
 use Rattle.logic.proofs.Forked.{before_held}
 use Rattle.logic.proofs.Necessary.{fresh_as, through_fits}
-use borrow.Author.Rules.{rules}
 use Rattle.logic.proofs.store_necessity.Goals as goal
 
 pub returns : goal.returns

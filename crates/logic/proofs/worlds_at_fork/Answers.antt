@@ -6,7 +6,6 @@ use Rattle.tree.specs.Lay.{held}
 use Rattle.tree.proofs.Nodes.{held_as}
 use Rattle.logic.proofs.Reapply.{stands}
 use Rattle.logic.proofs.Forked.{all_leaves, leaves_low}
-use borrow.Author.Rules.{rules}
 use Rattle.logic.proofs.worlds_at_fork.Goals as goal
 
 pub returns-then-stored-eq0 : goal.returns-then-stored-eq0

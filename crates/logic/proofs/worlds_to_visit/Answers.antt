@@ -1,5 +1,4 @@
 use mathlib.Core.Path.{sym}
-use borrow.Author.Rules.{rules}
 use Rattle.logic.proofs.worlds_to_visit.Goals as goal
 
 pub returns : goal.returns

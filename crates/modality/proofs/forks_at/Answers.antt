@@ -1,6 +1,5 @@
 use mathlib.Core.Path.{refl}
 use Rattle.modality.proofs.Lists.{and_first, and_second}
-use borrow.Author.Rules.{rules}
 use Rattle.modality.proofs.forks_at.Goals as goal
 
 pub returns-then-forking : goal.returns-then-forking

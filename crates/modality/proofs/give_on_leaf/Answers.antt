@@ -1,19 +1,9 @@
 use borrow.Author.Rules.{rules}
-use Prim.Native.Nat.{ℕ, ◌<◌, ◌^◌}
-use mathlib.Core.Path.{◌≡◌}
-use mathlib.Core.Bool.{Bool}
-use mathlib.Core.List.{List, ◌++◌, map}
 use native.Mathlib.Omega.{arith}
 use borrow.Author.Rules.{rules}
-use Rattle.bits.specs.Bits.{bit_of}
-use Rattle.bits.specs.Worlds.{worlds_in}
 use Rattle.bits.proofs.Worlds.{worlds_first}
-use Rattle.definition.specs.Lists.{filter}
-use Rattle.definition.specs.Tree.{Node, new_node}
-use Rattle.tree.specs.Chain.{DrawnFrom}
-use Rattle.tree.specs.Lay.{Held}
 use Rattle.tree.proofs.Chains.{drawn_none}
-use Rattle.modality.proofs.Give.{worlds_both, Making, make_start, make_next, make_end}
+use Rattle.modality.proofs.Give.{worlds_both, make_start, make_next, make_end}
 use Rattle.modality.proofs.give_on_leaf.Goals as goal
 
 pub loop-rest-init : goal.loop-rest-init

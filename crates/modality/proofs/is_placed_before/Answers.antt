@@ -1,5 +1,4 @@
 use Rattle.modality.proofs.Before.{placed_out, placed_none, placed_some}
-use borrow.Author.Rules.{rules}
 use Rattle.modality.proofs.is_placed_before.Goals as goal
 
 pub returns-then-base-x : goal.returns-then-base-x

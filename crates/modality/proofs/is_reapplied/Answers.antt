@@ -1,7 +1,6 @@
 use mathlib.Core.Path.{◌∙◌, sym}
 use Rattle.modality.proofs.Lists.{or_first, or_second}
 use Rattle.modality.proofs.Under.{fork_loose, spawner_loose, one_above}
-use borrow.Author.Rules.{rules}
 use Rattle.modality.proofs.is_reapplied.Goals as goal
 
 pub returns-then-path_goes_through : goal.returns-then-path_goes_through

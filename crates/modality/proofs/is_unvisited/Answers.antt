@@ -1,7 +1,6 @@
 use mathlib.Core.Bool.{not}
 use mathlib.Core.Path.{ap}
 use Rattle.modality.proofs.Lists.{and_first, and_second}
-use borrow.Author.Rules.{rules}
 use Rattle.modality.proofs.is_unvisited.Goals as goal
 
 pub returns-then-contains : goal.returns-then-contains

@@ -1,17 +1,13 @@
-use borrow.Author.Rules.{rules}
 use Prim.Native.Nat.{ℕ, ◌≤◌, ◌-◌}
 use mathlib.Core.List.{List, ◌++◌}
-use native.Mathlib.Omega.{arith}
 use lib.ListN.{take}
 use Rattle.definition.specs.Limits.{most_identifiers}
 use Rattle.arrays.specs.Listed.{Listed}
-use Rattle.arrays.proofs.Listed.{listed_count}
 use Rattle.definition.specs.Lists.{filter}
 use Rattle.definition.specs.Tree.{Node}
 use Rattle.definition.specs.Modality.{Necessity}
 use Rattle.necessities.specs.Stored.{InRow}
 use Rattle.modality.specs.Stands.{Stands}
-use Rattle.modality.proofs.Fill.{fill_start, fill_next, fill_end}
 use Rattle.modality.proofs.Give.{through}
 use Rattle.modality.proofs.leaves_of.Given as goal
 

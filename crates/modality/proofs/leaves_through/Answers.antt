@@ -1,6 +1,5 @@
 use mathlib.Core.List.{[], ◌++◌}
 use Rattle.modality.proofs.Under.{through_walked, through_none}
-use borrow.Author.Rules.{rules}
 use Rattle.modality.proofs.leaves_through.Goals as goal
 
 pub returns-then-is_placed_before : goal.returns-then-is_placed_before

@@ -1,6 +1,5 @@
 use Rattle.definition.specs.Tree.{Node}
 use Rattle.modality.proofs.Before.{stands_out, stands_in}
-use borrow.Author.Rules.{rules}
 use Rattle.modality.proofs.parent_before.Goals as goal
 
 pub returns-then-base-x : goal.returns-then-base-x

@@ -1,11 +1,8 @@
-use borrow.Author.Rules.{rules}
 use Prim.Native.Nat.{◌-◌}
 use mathlib.Core.Path.{◌≡◌}
 use mathlib.Core.List.{List}
-use lib.Dec.{eqb}
 use Rattle.definition.specs.Lists.{elem}
 use Rattle.definition.specs.Tree.{Node, upward, path}
-use Rattle.tree.proofs.Paths.{climb_start, climb_none, climb_hit, climb_miss, climb_end}
 use Rattle.modality.specs.Stands.{Stands}
 use Rattle.modality.proofs.path_goes_through.Given as goal
 

@@ -1,14 +1,11 @@
-use borrow.Author.Rules.{rules}
 use Prim.Native.Nat.{◌-◌}
-use mathlib.Core.Path.{◌≡◌, ◌∙◌}
+use mathlib.Core.Path.{◌≡◌}
 use mathlib.Core.List.{List}
 use Rattle.definition.specs.Lists.{any}
 use Rattle.definition.specs.Tree.{Node, upward, path}
 use Rattle.definition.specs.Modality.{Necessity, runs_through}
-use Rattle.tree.proofs.Paths.{climb_start, climb_none, climb_hit, climb_miss, climb_end}
 use Rattle.necessities.specs.Stored.{InRow}
 use Rattle.modality.specs.Stands.{Stands}
-use Rattle.modality.proofs.Lists.{runs_by_path}
 use Rattle.modality.proofs.Before.{stored}
 use Rattle.modality.proofs.path_runs_through.Given as goal
 

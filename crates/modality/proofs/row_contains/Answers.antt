@@ -1,6 +1,5 @@
 use native.Mathlib.Omega.{arith}
 use Rattle.modality.proofs.Before.{row_none, row_has}
-use borrow.Author.Rules.{rules}
 use Rattle.modality.proofs.row_contains.Goals as goal
 
 pub returns-then-k-ge-MOST_IDENTIFIERS : goal.returns-then-k-ge-MOST_IDENTIFIERS

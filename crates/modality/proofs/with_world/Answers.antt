@@ -1,5 +1,4 @@
 use Rattle.modality.proofs.Worlds.{world_high, world_low}
-use borrow.Author.Rules.{rules}
 use Rattle.modality.proofs.with_world.Goals as goal
 
 pub returns-then-v-ge32 : goal.returns-then-v-ge32

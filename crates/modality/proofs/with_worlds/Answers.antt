@@ -1,5 +1,4 @@
 use Rattle.modality.proofs.Worlds.{brings_own, brings_forked}
-use borrow.Author.Rules.{rules}
 use Rattle.modality.proofs.with_worlds.Goals as goal
 
 pub returns-then-forks_at : goal.returns-then-forks_at

@@ -1,5 +1,4 @@
 use Rattle.necessities.proofs.Words.{word_none, word_has}
-use borrow.Author.Rules.{rules}
 use Rattle.modality.proofs.word_contains.Goals as goal
 
 pub returns-then-y-ge32 : goal.returns-then-y-ge32

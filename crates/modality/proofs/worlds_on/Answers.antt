@@ -1,11 +1,4 @@
-use borrow.Author.Rules.{rules}
-use Prim.Native.Nat.{ℕ, ◌<◌, ◌-◌}
-use mathlib.Core.Path.{◌≡◌}
-use mathlib.Core.List.{List}
-use Rattle.definition.specs.Tree.{Node, upward, path}
-use Rattle.definition.specs.Modality.{occurs}
 use Rattle.tree.proofs.Paths.{climb_none, climb_end}
-use Rattle.modality.specs.Stands.{Stands}
 use Rattle.modality.specs.Forking.{fork_of}
 use Rattle.modality.proofs.Worlds.{gathered, gather_start, gather_next}
 use Rattle.modality.proofs.worlds_on.Goals as goal

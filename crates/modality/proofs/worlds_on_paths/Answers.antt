@@ -1,16 +1,6 @@
 use borrow.Author.Rules.{rules}
-use Prim.Native.Nat.{ℕ, ◌≤◌, ◌<◌, ◌-◌}
-use mathlib.Core.Path.{◌≡◌, refl, ◌∙◌}
-use mathlib.Core.Bool.{false}
-use mathlib.Core.List.{List}
-use lib.ListN.{length, get_or, take}
-use Rattle.definition.specs.Limits.{most_identifiers}
-use Rattle.arrays.specs.Listed.{Listed}
-use Rattle.definition.specs.Lists.{Each, elem}
-use Rattle.definition.specs.Tree.{Node}
-use Rattle.modality.specs.Stands.{Stands}
+use mathlib.Core.Path.{refl, ◌∙◌}
 use Rattle.modality.specs.Forking.{fork_of}
-use Rattle.modality.specs.Seen.{Seen}
 use Rattle.modality.proofs.Worlds.{seen_next, seen_end, other_next}
 use Rattle.modality.proofs.worlds_on_paths.Goals as goal
 

@@ -1,6 +1,5 @@
-use borrow.Author.Rules.{rules}
 use Prim.Native.Nat.{ℕ, ◌≤◌, ◌<◌, ◌-◌}
-use mathlib.Core.Path.{◌≡◌, refl, ◌∙◌}
+use mathlib.Core.Path.{◌≡◌}
 use mathlib.Core.Bool.{false}
 use mathlib.Core.List.{List}
 use lib.ListN.{length, get_or, take}
@@ -11,7 +10,6 @@ use Rattle.definition.specs.Tree.{Node}
 use Rattle.modality.specs.Stands.{Stands}
 use Rattle.modality.specs.Forking.{fork_of}
 use Rattle.modality.specs.Seen.{Seen}
-use Rattle.modality.proofs.Worlds.{seen_next, seen_end, other_next}
 use Rattle.modality.proofs.worlds_on_paths.Given as goal
 
 -- After j turns `seen` has the worlds on the path of each of the first j leaves, and the entries of all that is not listed are as they were.

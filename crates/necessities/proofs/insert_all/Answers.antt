@@ -1,11 +1,4 @@
-use Prim.Native.Nat.{ℕ, ◌≤◌, ◌<◌, ◌-◌}
-use mathlib.Core.List.{List}
-use lib.ListN.{take}
 use borrow.Author.Rules.{rules}
-use Rattle.definition.specs.Limits.{most_identifiers}
-use Rattle.arrays.specs.Listed.{Listed}
-use Rattle.definition.specs.Lists.{Each}
-use Rattle.necessities.specs.Change.{Added}
 use Rattle.necessities.proofs.Tables.{added_none, added_out, insert_next, insert_end}
 use Rattle.necessities.proofs.insert_all.Goals as goal
 

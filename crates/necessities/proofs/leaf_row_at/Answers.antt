@@ -1,5 +1,4 @@
 use Rattle.necessities.proofs.Stacks.{row_leaves}
-use borrow.Author.Rules.{rules}
 use Rattle.necessities.proofs.leaf_row_at.Goals as goal
 
 pub returns : goal.returns

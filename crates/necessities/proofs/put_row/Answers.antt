@@ -3,7 +3,6 @@ use Prim.Native.Nat.{◌*◌}
 use mathlib.Core.List.{[], ◌∷◌}
 use Rattle.limits.specs.Arrays.{necessity_fields}
 use Rattle.arrays.proofs.Rows.{stored_sets}
-use borrow.Author.Rules.{rules}
 use Rattle.necessities.proofs.put_row.Goals as goal
 
 pub returns-then-k-ge-MOST_IDENTIFIERS : goal.returns-then-k-ge-MOST_IDENTIFIERS

@@ -1,6 +1,5 @@
 use mathlib.Core.Path.{refl}
 use Rattle.necessities.proofs.Stacks.{row_short}
-use borrow.Author.Rules.{rules}
 use Rattle.necessities.proofs.short_at.Goals as goal
 
 pub returns : goal.returns

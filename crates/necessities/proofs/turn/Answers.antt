@@ -1,10 +1,6 @@
 use borrow.Author.Rules.{rules}
-use Prim.Native.Nat.{◌≤◌, ◌-◌}
 use native.Mathlib.Omega.{arith}
-use mathlib.Core.Path.{◌≡◌}
-use lib.ListN.{length}
-use Rattle.limits.specs.Arrays.{necessity_cells}
-use Rattle.necessities.proofs.Turned.{Turning, turn_start, turn_next, turn_end}
+use Rattle.necessities.proofs.Turned.{turn_start, turn_next, turn_end}
 use Rattle.necessities.proofs.Stacks.{stack_turn}
 use Rattle.necessities.proofs.turn.Goals as goal
 

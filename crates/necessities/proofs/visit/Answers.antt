@@ -1,6 +1,5 @@
 use native.Mathlib.Omega.{arith}
 use Rattle.necessities.proofs.Stacks.{stack_visit}
-use borrow.Author.Rules.{rules}
 use Rattle.necessities.proofs.visit.Goals as goal
 
 pub returns-then-k-ge-MOST_IDENTIFIERS : goal.returns-then-k-ge-MOST_IDENTIFIERS

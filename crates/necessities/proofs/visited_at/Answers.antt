@@ -1,5 +1,4 @@
 use Rattle.necessities.proofs.Stacks.{row_visited}
-use borrow.Author.Rules.{rules}
 use Rattle.necessities.proofs.visited_at.Goals as goal
 
 pub returns : goal.returns

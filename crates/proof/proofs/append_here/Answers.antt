@@ -1,6 +1,5 @@
 use Rattle.proof.proofs.Applying.{here_after}
 use Rattle.logic.proofs.Forked.{passed}
-use borrow.Author.Rules.{rules}
 use Rattle.proof.proofs.append_here.Goals as goal
 
 pub returns : goal.returns

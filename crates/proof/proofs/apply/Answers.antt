@@ -4,7 +4,6 @@ use Rattle.rules.specs.declared.Consequence.{Consequence}
 use Rattle.rules.specs.Consequences.{consequence_of}
 use Rattle.proof.proofs.Applying.{rule_possible, rule_necessary, after_as, after_here}
 use Rattle.setting.specs.Asked.{asked}
-use borrow.Author.Rules.{rules}
 use Rattle.proof.proofs.apply.Goals as goal
 
 pub returns-in-AsPossible : goal.returns-in-AsPossible

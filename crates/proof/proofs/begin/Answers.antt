@@ -1,7 +1,6 @@
 use Rattle.tree.specs.Lay.{held}
 use Rattle.proof.specs.StateHeld.{kept}
 use Rattle.proof.proofs.Stepping.{laid_fits, checked_laid}
-use borrow.Author.Rules.{rules}
 use Rattle.proof.proofs.begin.Goals as goal
 
 pub returns : goal.returns

@@ -1,7 +1,6 @@
 use mathlib.Core.Path.{◌∙◌}
 use Rattle.proof.proofs.Applying.{check_skipped, check_made, or_yes, or_no}
 use Rattle.setting.specs.Asked.{asked}
-use borrow.Author.Rules.{rules}
 use Rattle.proof.proofs.check.Goals as goal
 
 pub returns-then-setting : goal.returns-then-setting

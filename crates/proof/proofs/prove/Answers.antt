@@ -1,12 +1,7 @@
-use Rattle.setting.specs.Asked.{asked}
 use borrow.Author.Rules.{rules}
 use mathlib.Core.Path.{◌∙◌, sym}
-use Prim.Native.Nat.{◌≤◌, ◌-◌}
 use native.Mathlib.Omega.{arith}
-use Rattle.definition.specs.Run.{State, enough_steps}
-use Rattle.definition.specs.Reached.{Reached}
-use Rattle.proof.specs.StateHeld.{StateHeld}
-use Rattle.proof.proofs.Going.{Going, going_start, going_stops, going_next, going_ends}
+use Rattle.proof.proofs.Going.{going_start, going_stops, going_next, going_ends}
 use Rattle.proof.proofs.prove.Goals as goal
 
 pub loop-n-init : goal.loop-n-init

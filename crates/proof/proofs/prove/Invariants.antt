@@ -1,12 +1,9 @@
 use Rattle.setting.specs.Asked.{asked}
-use borrow.Author.Rules.{rules}
-use mathlib.Core.Path.{◌∙◌, sym}
 use Prim.Native.Nat.{◌≤◌, ◌-◌}
-use native.Mathlib.Omega.{arith}
 use Rattle.definition.specs.Run.{State, enough_steps}
 use Rattle.definition.specs.Reached.{Reached}
 use Rattle.proof.specs.StateHeld.{StateHeld}
-use Rattle.proof.proofs.Going.{Going, going_start, going_stops, going_next, going_ends}
+use Rattle.proof.proofs.Going.{Going}
 use Rattle.proof.proofs.prove.Given as goal
 
 -- After n turns the state is that of the run after n steps, and what is left of the run gives what the whole run gives.

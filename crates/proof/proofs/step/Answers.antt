@@ -2,7 +2,6 @@ use mathlib.Core.Path.{refl, sym, ◌∙◌}
 use Rattle.definition.specs.Queue as D
 use Rattle.proof.proofs.Going.{kept_as, one_stays, one_step}
 use Rattle.proof.proofs.Stepping.{due, due_before, never_none, taken_of, took, took_classes, expands_as, stepped}
-use borrow.Author.Rules.{rules}
 use Rattle.proof.proofs.step.Goals as goal
 
 pub returns-then-stops : goal.returns-then-stops

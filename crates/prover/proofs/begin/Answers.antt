@@ -3,7 +3,6 @@ use mathlib.Core.List.{[]}
 use Rattle.definition.specs.Records.{decode}
 use Rattle.definition.specs.Run.{begun}
 use Rattle.prover.proofs.Beginning.{few_records, started}
-use borrow.Author.Rules.{rules}
 use Rattle.prover.proofs.begin.Goals as goal
 
 pub returns : goal.returns

@@ -2,7 +2,6 @@ use native.Mathlib.Omega.{arith}
 use Rattle.formula.proofs.Recorded.{recorded_fits}
 use Rattle.prover.specs.Said.{said}
 use Rattle.prover.proofs.Ending.{kept_laid, laid_ended, ends_full, ends_laid}
-use borrow.Author.Rules.{rules}
 use Rattle.prover.proofs.finish.Goals as goal
 
 pub returns-then-p-gt-MOST_IDENTIFIERS : goal.returns-then-p-gt-MOST_IDENTIFIERS

@@ -2,7 +2,6 @@ use mathlib.Core.Path.{sym, ap, ◌∙◌}
 use Rattle.checks.specs.Checked.{check_of}
 use Rattle.prover.specs.Said.{said}
 use Rattle.prover.proofs.Whole.{contract_refused}
-use borrow.Author.Rules.{rules}
 use Rattle.prover.proofs.prove.Goals as goal
 
 pub returns-in-Refused : goal.returns-in-Refused

@@ -5,7 +5,6 @@ use Rattle.graph.proofs.Drawn.{drawn_none}
 use Rattle.tree.proofs.Nodes.{held_none}
 use Rattle.necessities.proofs.Stacks.{stack_none}
 use Rattle.prover.proofs.Whole.{runs}
-use borrow.Author.Rules.{rules}
 use Rattle.prover.proofs.run.Goals as goal
 
 pub returns : goal.returns

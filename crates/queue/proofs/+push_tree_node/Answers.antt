@@ -1,8 +1,4 @@
-use borrow.Author.Rules.{rules}
-use native.Mathlib.Nat.{pos_of_ne-zero}
-use native.Mathlib.Omega.{arith}
 use Rattle.queue.proofs.Pushing.{push_deep, push_nobody, push_kids}
-use Prim.Native.Nat.{ℕ, ◌<◌}
 use Rattle.queue.proofs.+push_tree_node.Goals as goal
 
 -- At depth 0, and where there is no node, nothing is pushed; any other node is pushed behind what its three children push, one after the other.

@@ -1,18 +1,8 @@
-use borrow.Author.Rules.{rules}
-use Prim.Native.Nat.{ℕ, ◌≤◌, ◌-◌}
-use mathlib.Core.Path.{◌≡◌}
-use mathlib.Core.List.{List, ◌++◌, map}
+use mathlib.Core.List.{◌++◌}
 use native.Mathlib.Omega.{arith}
-use lib.ListN.{length, length-append, take}
-use Rattle.definition.specs.Limits.{most_identifiers, most_formulas}
-use Rattle.arrays.specs.Listed.{Listed}
+use lib.ListN.{length-append}
 use Rattle.arrays.proofs.Listed.{listed_count}
-use Rattle.definition.specs.Records.{Rec}
-use Rattle.definition.specs.Tree.{Node}
-use Rattle.definition.specs.Setting.{Setting}
 use Rattle.definition.specs.Queue as D
-use Rattle.formula.specs.Recorded.{Recorded}
-use Rattle.tree.specs.Lay.{Lays}
 use Rattle.queue.proofs.Taking.{classing_start, classing_next, classing_end}
 use Rattle.queue.proofs.classify.Goals as goal
 

@@ -1,19 +1,15 @@
-use borrow.Author.Rules.{rules}
 use Prim.Native.Nat.{ℕ, ◌≤◌, ◌-◌}
 use mathlib.Core.Path.{◌≡◌}
 use mathlib.Core.List.{List, ◌++◌, map}
-use native.Mathlib.Omega.{arith}
-use lib.ListN.{length, length-append, take}
+use lib.ListN.{length, take}
 use Rattle.definition.specs.Limits.{most_identifiers, most_formulas}
 use Rattle.arrays.specs.Listed.{Listed}
-use Rattle.arrays.proofs.Listed.{listed_count}
 use Rattle.definition.specs.Records.{Rec}
 use Rattle.definition.specs.Tree.{Node}
 use Rattle.definition.specs.Setting.{Setting}
 use Rattle.definition.specs.Queue as D
 use Rattle.formula.specs.Recorded.{Recorded}
 use Rattle.tree.specs.Lay.{Lays}
-use Rattle.queue.proofs.Taking.{classing_start, classing_next, classing_end}
 use Rattle.queue.proofs.classify.Given as goal
 
 -- After each turn the classes of the first i waiting nodes are listed; the first m were so at the start, and those from i on are left.

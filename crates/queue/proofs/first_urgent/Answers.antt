@@ -1,15 +1,6 @@
 use borrow.Author.Rules.{rules}
-use Prim.Native.Nat.{ℕ, ◌≤◌, ◌-◌}
-use mathlib.Core.Path.{◌≡◌}
-use mathlib.Core.List.{List, map}
 use native.Mathlib.Omega.{arith}
-use Rattle.definition.specs.Limits.{most_identifiers}
-use Rattle.arrays.specs.Listed.{Listed}
-use Rattle.definition.specs.Records.{Rec}
-use Rattle.definition.specs.Tree.{Node}
-use Rattle.definition.specs.Setting.{Setting}
-use Rattle.definition.specs.Queue as D
-use Rattle.queue.proofs.Taking.{from_class, from_place, class_start, search_begin, search_next, search_end, search_hit, search_miss}
+use Rattle.queue.proofs.Taking.{class_start, search_begin, search_next, search_end, search_hit, search_miss}
 use Rattle.queue.proofs.first_urgent.Goals as goal
 
 pub classes-init : goal.classes-init

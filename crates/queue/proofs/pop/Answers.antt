@@ -1,4 +1,3 @@
-use borrow.Author.Rules.{rules}
 use Rattle.definition.specs.Queue as D
 use Rattle.queue.proofs.Taking.{pop_none, pop_some}
 use Rattle.queue.proofs.pop.Goals as goal

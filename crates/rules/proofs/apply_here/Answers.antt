@@ -1,5 +1,4 @@
 use Rattle.rules.proofs.Here.{here_world}
-use borrow.Author.Rules.{rules}
 use Rattle.rules.proofs.apply_here.Goals as goal
 
 pub returns-in-Nothing : goal.returns-in-Nothing

@@ -1,6 +1,5 @@
 use mathlib.Core.List.{[], ◌∷◌}
 use Rattle.rules.proofs.Here.{here_middle}
-use borrow.Author.Rules.{rules}
 use Rattle.rules.proofs.down_two.Goals as goal
 
 pub returns : goal.returns

@@ -1,6 +1,5 @@
 use Rattle.rules.proofs.RecordsMade.{expands_as}
 use Rattle.rules.proofs.Choice.{chosen}
-use borrow.Author.Rules.{rules}
 use Rattle.rules.proofs.expand.Goals as goal
 
 pub returns : goal.returns

@@ -1,6 +1,5 @@
 use mathlib.Core.Path.{refl}
 use Rattle.definition.specs.Rules.{expansion_by, non_expansion}
-use borrow.Author.Rules.{rules}
 use Rattle.rules.proofs.expand_by.Goals as goal
 
 pub returns-in-Nothing : goal.returns-in-Nothing

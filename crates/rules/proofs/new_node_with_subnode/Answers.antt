@@ -1,5 +1,4 @@
 use Rattle.rules.proofs.Here.{adds_both}
-use borrow.Author.Rules.{rules}
 use Rattle.rules.proofs.new_node_with_subnode.Goals as goal
 
 pub returns : goal.returns

@@ -1,7 +1,6 @@
 use mathlib.Core.Path.{refl}
 use Rattle.definition.specs.Rules.{non_expansion}
 use Rattle.rules.proofs.RecordsMade.{expands_two}
-use borrow.Author.Rules.{rules}
 use Rattle.rules.proofs.non_possible.Goals as goal
 
 pub returns : goal.returns

@@ -1,7 +1,6 @@
 use mathlib.Core.Path.{refl}
 use mathlib.Core.List.{[], ◌∷◌}
 use Rattle.rules.proofs.Here.{here_split}
-use borrow.Author.Rules.{rules}
 use Rattle.rules.proofs.split_two.Goals as goal
 
 pub returns : goal.returns

@@ -1,7 +1,6 @@
 use mathlib.Core.Path.{refl}
 use Rattle.definition.specs.Rules.{expansion_by}
 use Rattle.rules.proofs.RecordsMade.{expands_one}
-use borrow.Author.Rules.{rules}
 use Rattle.rules.proofs.strict_imply.Goals as goal
 
 pub returns : goal.returns

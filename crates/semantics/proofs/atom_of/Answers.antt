@@ -1,5 +1,4 @@
 use Rattle.semantics.proofs.Literals.{no_atom, one_atom}
-use borrow.Author.Rules.{rules}
 use Rattle.semantics.proofs.atom_of.Goals as goal
 
 pub returns-then-kind_at-ne0 : goal.returns-then-kind_at-ne0

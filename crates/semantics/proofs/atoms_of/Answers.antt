@@ -1,6 +1,5 @@
 use mathlib.Core.Path.{refl}
 use Rattle.semantics.proofs.Literals.{no_atom, one_atom, no_pair, a_pair, pair_first, pair_second, pair_both}
-use borrow.Author.Rules.{rules}
 use Rattle.semantics.proofs.atoms_of.Goals as goal
 
 pub returns-then-kind_at-ne5 : goal.returns-then-kind_at-ne5

@@ -1,4 +1,3 @@
-use borrow.Author.Rules.{rules}
 use Rattle.semantics.proofs.claim_of.Goals as goal
 
 pub returns : goal.returns

@@ -1,6 +1,5 @@
 use mathlib.Core.Path.{refl}
 use Rattle.semantics.proofs.Literals.{first_opposed, second_opposed, nothing_opposed}
-use borrow.Author.Rules.{rules}
 use Rattle.semantics.proofs.contradicts.Goals as goal
 
 pub returns-then-opposed : goal.returns-then-opposed

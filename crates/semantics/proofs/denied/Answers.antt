@@ -1,6 +1,5 @@
 use mathlib.Core.Path.{sym, ◌∙◌}
 use Rattle.semantics.proofs.Literals.{denied_none, denied_inner, denied_formula}
-use borrow.Author.Rules.{rules}
 use Rattle.semantics.proofs.denied.Goals as goal
 
 pub returns-then-kind_at-ne1 : goal.returns-then-kind_at-ne1

@@ -1,6 +1,5 @@
 use Rattle.definition.specs.Contradiction.{opposed}
 use Rattle.semantics.proofs.Literals.{atom_atom, atom_pair, pair_atom, pair_pair, pair_differs}
-use borrow.Author.Rules.{rules}
 use Rattle.semantics.proofs.opposed.Goals as goal
 
 pub returns-in-Nothing : goal.returns-in-Nothing

@@ -1,6 +1,5 @@
 use mathlib.Core.Path.{sym, ◌∙◌}
 use Rattle.semantics.proofs.Literals.{said_plain, said_once, said_twice, said_formula}
-use borrow.Author.Rules.{rules}
 use Rattle.semantics.proofs.said.Goals as goal
 
 pub returns-then-kind_at-ne1 : goal.returns-then-kind_at-ne1

@@ -1,7 +1,6 @@
 use mathlib.Core.Path.{refl}
 use Rattle.definition.specs.Setting.{setting_of}
 use Rattle.setting.specs.Asked.{asked}
-use borrow.Author.Rules.{rules}
 use Rattle.setting.proofs.setting_of.Goals as goal
 
 pub returns : goal.returns

@@ -1,7 +1,6 @@
 use Rattle.slices.proofs.Writing.{puts_full, puts_one}
 use mathlib.Core.Path.{refl}
 use native.Mathlib.Omega.{arith}
-use borrow.Author.Rules.{rules}
 use Rattle.slices.proofs.put.Goals as goal
 
 pub returns-then-slice-at : goal.returns-then-slice-at

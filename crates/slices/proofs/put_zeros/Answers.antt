@@ -1,12 +1,8 @@
 use borrow.Author.Rules.{rules}
-use Prim.Native.Nat.{ℕ, ◌≤◌, ◌-◌}
-use mathlib.Core.Path.{◌≡◌, refl}
-use mathlib.Core.List.{List}
+use mathlib.Core.Path.{refl}
 use mathlib.Core.Logic.{inl, inr}
 use native.Mathlib.Omega.{arith}
-use lib.ListN.{length}
-use Rattle.slices.specs.Written.{Written}
-use Rattle.slices.proofs.Writing.{Zeros, written_length, zeros_start, zeros_next, zeros_end}
+use Rattle.slices.proofs.Writing.{written_length, zeros_start, zeros_next, zeros_end}
 use Rattle.slices.proofs.put_zeros.Goals as goal
 
 pub returns-then-slice-end : goal.returns-then-slice-end

@@ -1,12 +1,9 @@
-use borrow.Author.Rules.{rules}
 use Prim.Native.Nat.{ℕ, ◌≤◌, ◌-◌}
-use mathlib.Core.Path.{◌≡◌, refl}
+use mathlib.Core.Path.{◌≡◌}
 use mathlib.Core.List.{List}
-use mathlib.Core.Logic.{inl, inr}
-use native.Mathlib.Omega.{arith}
 use lib.ListN.{length}
 use Rattle.slices.specs.Written.{Written}
-use Rattle.slices.proofs.Writing.{Zeros, written_length, zeros_start, zeros_next, zeros_end}
+use Rattle.slices.proofs.Writing.{Zeros}
 use Rattle.slices.proofs.put_zeros.Given as goal
 
 -- After each turn zeros stand from `at` up to i, and the rest of the slice is as it was.

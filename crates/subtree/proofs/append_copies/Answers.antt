@@ -1,16 +1,6 @@
-use Prim.Native.Nat.{ℕ, ◌≤◌, ◌-◌}
-use mathlib.Core.List.{List}
-use lib.ListN.{length, drop}
 use native.Mathlib.Omega.{arith}
-use Rattle.definition.specs.Limits.{most_identifiers}
-use Rattle.arrays.specs.Listed.{Listed}
 use Rattle.arrays.proofs.Listed.{listed_count}
-use Rattle.definition.specs.Tree.{Node}
-use Rattle.definition.specs.Subtree.{append_copies}
-use Rattle.tree.specs.Lay.{Held}
-use Rattle.subtree.specs.Subtree.{subtree_of, Within}
-use Rattle.subtree.proofs.Placing.{Copying, copies_start, copies_next, copies_end}
-use borrow.Author.Rules.{rules}
+use Rattle.subtree.proofs.Placing.{copies_start, copies_next, copies_end}
 use Rattle.subtree.proofs.append_copies.Goals as goal
 
 pub loop-k-init : goal.loop-k-init

@@ -1,5 +1,4 @@
 use Rattle.subtree.proofs.Placing.{copy_placed}
-use borrow.Author.Rules.{rules}
 use Rattle.subtree.proofs.append_copy.Goals as goal
 
 pub returns : goal.returns

@@ -1,18 +1,10 @@
-use Prim.Native.Nat.{ℕ, ◌≤◌, ◌-◌}
 use mathlib.Core.Path.{sym, ap, subst}
-use mathlib.Core.List.{List, map}
-use lib.ListN.{length, drop}
 use native.Mathlib.Omega.{arith}
-use Rattle.definition.specs.Limits.{most_identifiers}
-use Rattle.arrays.specs.Listed.{Listed}
-use Rattle.definition.specs.Tree.{Node}
 use Rattle.definition.specs.Subtree.{append_logic_rule_result}
 use Rattle.definition.specs.TreeShape.{TreedThroughout}
-use Rattle.tree.specs.Lay.{Held}
-use Rattle.subtree.specs.Items.{Item, ItemsHeld, filled, item_from}
-use Rattle.subtree.proofs.Items.{rows_count, held_few, Joining, joining_start, joining_next, joining_end, joining_full}
+use Rattle.subtree.specs.Items.{filled}
+use Rattle.subtree.proofs.Items.{rows_count, held_few, joining_start, joining_next, joining_end, joining_full}
 use Rattle.subtree.proofs.Placing.{left_as}
-use borrow.Author.Rules.{rules}
 use Rattle.subtree.proofs.append_logic_rule_result.Goals as goal
 
 pub returns-then-made-gt-MOST_IDENTIFIERS : goal.returns-then-made-gt-MOST_IDENTIFIERS

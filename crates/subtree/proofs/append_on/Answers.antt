@@ -1,6 +1,5 @@
 use Rattle.subtree.proofs.Subtrees.{within_fits, within_hung}
 use Rattle.subtree.proofs.Placing.{on_none, on_some}
-use borrow.Author.Rules.{rules}
 use Rattle.subtree.proofs.append_on.Goals as goal
 
 pub returns-then-m-eq0 : goal.returns-then-m-eq0

@@ -1,6 +1,5 @@
 use mathlib.Core.Path.{sym, ◌∙◌}
 use Rattle.subtree.proofs.Placing.{subtree_full, subtree_as, subtree_none, found_takers, subtree_many, subtree_on}
-use borrow.Author.Rules.{rules}
 use Rattle.subtree.proofs.append_subtree.Goals as goal
 
 pub returns-then-len-gt-MOST_IDENTIFIERS : goal.returns-then-len-gt-MOST_IDENTIFIERS

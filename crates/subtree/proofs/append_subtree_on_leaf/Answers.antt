@@ -1,5 +1,4 @@
 use Rattle.subtree.proofs.Subtrees.{hung}
-use borrow.Author.Rules.{rules}
 use Rattle.subtree.proofs.append_subtree_on_leaf.Goals as goal
 
 pub returns : goal.returns

@@ -1,5 +1,4 @@
 use Rattle.subtree.proofs.Subtrees.{attached}
-use borrow.Author.Rules.{rules}
 use Rattle.subtree.proofs.attach_new_ids.Goals as goal
 
 pub returns : goal.returns

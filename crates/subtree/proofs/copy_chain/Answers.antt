@@ -1,10 +1,4 @@
-use Prim.Native.Nat.{◌≤◌, ◌-◌}
-use mathlib.Core.List.{List, ◌++◌, map}
-use lib.ListN.{length, take}
-use Rattle.definition.specs.Tree.{Node}
-use Rattle.definition.specs.Subtree.{copied}
-use Rattle.tree.specs.Lay.{Held}
-use Rattle.tree.specs.Chain.{chain_of, ChainBelow, DrawnFrom}
+use Rattle.tree.specs.Chain.{chain_of}
 use Rattle.tree.proofs.Chains.{drawn_none}
 use Rattle.subtree.proofs.Chains.{copying_start, copying_next, copying_end}
 use borrow.Author.Rules.{rules}

@@ -5,9 +5,6 @@ use Rattle.definition.specs.Tree.{Node}
 use Rattle.definition.specs.Subtree.{copied}
 use Rattle.tree.specs.Lay.{Held}
 use Rattle.tree.specs.Chain.{chain_of, ChainBelow, DrawnFrom}
-use Rattle.tree.proofs.Chains.{drawn_none}
-use Rattle.subtree.proofs.Chains.{copying_start, copying_next, copying_end}
-use borrow.Author.Rules.{rules}
 use Rattle.subtree.proofs.copy_chain.Given as goal
 
 -- After k turns the copies of the first k nodes of the chain stand behind the nodes.

@@ -1,9 +1,4 @@
-use Prim.Native.Nat.{ℕ, ◌≤◌, ◌-◌}
-use mathlib.Core.List.{List, ◌++◌}
-use lib.ListN.{take}
-use Rattle.definition.specs.Limits.{most_identifiers}
-use Rattle.arrays.specs.Listed.{Listed}
-use Rattle.tree.specs.Chain.{chain_of, ChainBelow}
+use Rattle.tree.specs.Chain.{chain_of}
 use Rattle.subtree.proofs.Chains.{pushing_start, pushing_next, pushing_end}
 use borrow.Author.Rules.{rules}
 use Rattle.subtree.proofs.push_chain.Goals as goal

@@ -4,8 +4,6 @@ use lib.ListN.{take}
 use Rattle.definition.specs.Limits.{most_identifiers}
 use Rattle.arrays.specs.Listed.{Listed}
 use Rattle.tree.specs.Chain.{chain_of, ChainBelow}
-use Rattle.subtree.proofs.Chains.{pushing_start, pushing_next, pushing_end}
-use borrow.Author.Rules.{rules}
 use Rattle.subtree.proofs.push_chain.Given as goal
 
 -- After k turns the first k identifiers of the chain stand behind the list.

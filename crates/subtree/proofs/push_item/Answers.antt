@@ -1,5 +1,4 @@
 use Rattle.subtree.proofs.Items.{drawn_none, drawn_over, drawn_push}
-use borrow.Author.Rules.{rules}
 use Rattle.subtree.proofs.push_item.Goals as goal
 
 pub returns-then-c-eq0 : goal.returns-then-c-eq0

@@ -1,5 +1,4 @@
 use Rattle.subtree.proofs.Subtrees.{pushed_turned, pushed_all}
-use borrow.Author.Rules.{rules}
 use Rattle.subtree.proofs.push_subtree.Goals as goal
 
 pub returns : goal.returns

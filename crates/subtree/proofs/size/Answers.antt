@@ -1,6 +1,5 @@
 use mathlib.Core.Path.{sym}
 use Rattle.subtree.proofs.Subtrees.{size_of}
-use borrow.Author.Rules.{rules}
 use Rattle.subtree.proofs.size.Goals as goal
 
 pub returns : goal.returns

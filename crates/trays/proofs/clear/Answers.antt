@@ -5,7 +5,6 @@ use Prim.Native.Nat.{ℕ}
 use native.Mathlib.Omega.{arith}
 use Rattle.definition.specs.Trays.{over}
 use Rattle.slices.proofs.Writing.{written_none, padded_none}
-use borrow.Author.Rules.{rules}
 use Rattle.trays.proofs.clear.Goals as goal
 
 pub returns : goal.returns

@@ -1,12 +1,11 @@
 use borrow.Author.Rules.{rules}
-use Prim.Native.Nat.{ℕ, ◌≤◌, ◌-◌}
-use mathlib.Core.Path.{◌≡◌, refl, ◌∙◌, ap}
+use Prim.Native.Nat.{ℕ}
+use mathlib.Core.Path.{refl, ◌∙◌, ap}
 use mathlib.Core.List.{List, []}
 use native.Mathlib.Omega.{arith}
-use lib.ListN.{length}
 use Rattle.definition.specs.Limits.{edge_tray_length}
 use Rattle.definition.specs.Trays.{over}
-use Rattle.slices.proofs.Writing.{Zeros, written_none, padded_none, zeros_start, zeros_next, zeros_end}
+use Rattle.slices.proofs.Writing.{written_none, padded_none, zeros_start, zeros_next, zeros_end}
 use Rattle.trays.proofs.clear_edges.Goals as goal
 
 pub returns-then-tray-lt-EDGE_TRAY_LENGTH : goal.returns-then-tray-lt-EDGE_TRAY_LENGTH

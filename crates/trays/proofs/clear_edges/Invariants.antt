@@ -1,12 +1,9 @@
-use borrow.Author.Rules.{rules}
-use Prim.Native.Nat.{ℕ, ◌≤◌, ◌-◌}
-use mathlib.Core.Path.{◌≡◌, refl, ◌∙◌, ap}
-use mathlib.Core.List.{List, []}
-use native.Mathlib.Omega.{arith}
+use Prim.Native.Nat.{◌≤◌, ◌-◌}
+use mathlib.Core.Path.{◌≡◌}
+use mathlib.Core.List.{[]}
 use lib.ListN.{length}
 use Rattle.definition.specs.Limits.{edge_tray_length}
-use Rattle.definition.specs.Trays.{over}
-use Rattle.slices.proofs.Writing.{Zeros, written_none, padded_none, zeros_start, zeros_next, zeros_end}
+use Rattle.slices.proofs.Writing.{Zeros}
 use Rattle.trays.proofs.clear_edges.Given as goal
 
 -- After each turn the bytes so far are zero, and the rest of the tray is as it was.

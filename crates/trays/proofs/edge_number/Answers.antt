@@ -1,12 +1,5 @@
 use borrow.Author.Rules.{rules}
-use Prim.Native.Nat.{◌≤◌, ◌<◌, ◌-◌, ◌^◌}
-use mathlib.Core.Path.{◌≡◌}
 use native.Mathlib.Omega.{arith}
-use lib.ListN.{length, drop}
-use Rattle.definition.specs.Limits.{graph_width}
-use Rattle.definition.specs.Graph.{Graph}
-use Rattle.definition.specs.Trays.{row_number}
-use Rattle.graph.specs.Drawn.{Drawn}
 use Rattle.trays.proofs.Numbers.{row_of, row_none, row_start, row_next, row_end, number_low, number_next}
 use Rattle.trays.proofs.edge_number.Goals as goal
 

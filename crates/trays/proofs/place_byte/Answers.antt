@@ -1,7 +1,6 @@
 use Rattle.trays.proofs.Bytes.{place_none, place_some}
 use Prim.Native.Nat.{ℕ, ◌%◌}
 use mathlib.Core.Path.{sym, ap, ◌∙◌}
-use borrow.Author.Rules.{rules}
 use Rattle.trays.proofs.place_byte.Goals as goal
 
 pub returns-then-place-eq-PLACE_UNPLACED : goal.returns-then-place-eq-PLACE_UNPLACED

@@ -1,7 +1,6 @@
 use Rattle.definition.specs.Records.{rec_at}
 use Rattle.slices.proofs.Writing.{low_same, puts_then, puts_as}
 use Rattle.trays.proofs.Bytes.{record_bytes_lem, number_low}
-use borrow.Author.Rules.{rules}
 use Rattle.trays.proofs.put_formula.Goals as goal
 
 pub returns : goal.returns

@@ -4,7 +4,6 @@ use mathlib.Core.Bool.{Bool, cond}
 use Rattle.definition.specs.Tree.{node_at}
 use Rattle.slices.proofs.Writing.{low_same, puts_then, puts_as}
 use Rattle.trays.proofs.Bytes.{node_bytes_lem}
-use borrow.Author.Rules.{rules}
 use Rattle.trays.proofs.put_node.Goals as goal
 
 pub shape_of-tray : goal.shape_of-tray

@@ -1,15 +1,7 @@
-use Prim.Native.Nat.{◌≤◌, ◌-◌}
-use mathlib.Core.Path.{◌≡◌, refl}
-use mathlib.Core.Bool.{Bool}
-use mathlib.Core.List.{List}
+use mathlib.Core.Path.{refl}
 use native.Mathlib.Omega.{arith}
-use lib.ListN.{length}
-use Rattle.definition.specs.Limits.{edge_tray_length}
-use Rattle.definition.specs.Lists.{Each}
-use Rattle.definition.specs.Graph.{Graph}
-use Rattle.graph.specs.Drawn.{Drawn}
 use Rattle.trays.proofs.Bytes.{not_kept}
-use Rattle.trays.proofs.Numbers.{Edges, row_fits, edges_start, edges_next, edges_end}
+use Rattle.trays.proofs.Numbers.{row_fits, edges_start, edges_next, edges_end}
 use borrow.Author.Rules.{rules}
 use Rattle.trays.proofs.write_edges.Goals as goal
 

@@ -1,16 +1,13 @@
 use Prim.Native.Nat.{◌≤◌, ◌-◌}
-use mathlib.Core.Path.{◌≡◌, refl}
+use mathlib.Core.Path.{◌≡◌}
 use mathlib.Core.Bool.{Bool}
 use mathlib.Core.List.{List}
-use native.Mathlib.Omega.{arith}
 use lib.ListN.{length}
 use Rattle.definition.specs.Limits.{edge_tray_length}
 use Rattle.definition.specs.Lists.{Each}
 use Rattle.definition.specs.Graph.{Graph}
 use Rattle.graph.specs.Drawn.{Drawn}
-use Rattle.trays.proofs.Bytes.{not_kept}
-use Rattle.trays.proofs.Numbers.{Edges, row_fits, edges_start, edges_next, edges_end}
-use borrow.Author.Rules.{rules}
+use Rattle.trays.proofs.Numbers.{Edges}
 use Rattle.trays.proofs.write_edges.Given as goal
 
 -- After u turns the numbers of the first u rows are written, and the rest of the tray is as it was.

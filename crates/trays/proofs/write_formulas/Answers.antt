@@ -1,19 +1,18 @@
 use borrow.Author.Rules.{rules}
-use Prim.Native.Nat.{◌<◌, ◌-◌}
-use mathlib.Core.Path.{◌≡◌, refl}
-use mathlib.Core.List.{List}
+use Prim.Native.Nat.{◌<◌}
+use mathlib.Core.Path.{refl}
 use native.Mathlib.Omega.{arith}
 use lib.ListN.{length}
 use Rattle.definition.specs.Limits.{record_length}
-use Rattle.definition.specs.Lists.{Each, concat_map}
+use Rattle.definition.specs.Lists.{concat_map}
 use Rattle.definition.specs.Records.{Rec, rec_at}
 use Rattle.definition.specs.Trays.{record_bytes}
-use Rattle.formula.specs.Recorded.{Recorded, missing}
+use Rattle.formula.specs.Recorded.{missing}
 use Rattle.formula.proofs.Recorded.{recorded_count}
 use Rattle.definition.proofs.Basics.Lists.{each_get}
 use Rattle.definition.proofs.Call.Trays.{length_parts, record_length_lem}
 use Rattle.trays.proofs.Bytes.{not_kept}
-use Rattle.slices.proofs.Parts.{Parts, parts_start, parts_next, parts_end}
+use Rattle.slices.proofs.Parts.{parts_start, parts_next, parts_end}
 use Rattle.trays.proofs.write_formulas.Goals as goal
 
 pub returns-then-tray-lt-FORMULA_TRAY_LENGTH : goal.returns-then-tray-lt-FORMULA_TRAY_LENGTH

@@ -1,9 +1,5 @@
-use borrow.Author.Rules.{rules}
-use native.Mathlib.Nat.{pos_of_ne-zero}
-use native.Mathlib.Omega.{arith}
 use mathlib.Core.Path.{refl}
 use Rattle.tree.proofs.Paths.{leaves_walk, walk_none, walk_end, walk_leaf, walk_deep}
-use Prim.Native.Nat.{ℕ, ◌<◌}
 use Rattle.tree.proofs.+leaves_below.Goals as goal
 
 -- What is no node lists nothing; a leaf lists itself, any other node what its three children list, one after the other.

@@ -1,8 +1,4 @@
-use borrow.Author.Rules.{rules}
-use native.Mathlib.Nat.{pos_of_ne-zero}
-use native.Mathlib.Omega.{arith}
 use Rattle.tree.proofs.Paths.{open_walk, walk_none, walk_shut, walk_end, walk_leaf, walk_deep}
-use Prim.Native.Nat.{ℕ, ◌<◌}
 use Rattle.tree.proofs.+takers_below.Goals as goal
 
 -- What is no node, or a contradictory one, lists nothing; a leaf lists itself, any other node what its three children list, one after the other.

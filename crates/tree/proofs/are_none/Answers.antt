@@ -1,5 +1,4 @@
 use Rattle.tree.proofs.Nodes.{none_yes, none_middle, none_left}
-use borrow.Author.Rules.{rules}
 use Rattle.tree.proofs.are_none.Goals as goal
 
 pub returns-then-is_none-2 : goal.returns-then-is_none-2

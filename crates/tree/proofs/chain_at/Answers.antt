@@ -1,7 +1,6 @@
 use mathlib.Core.Path.{refl}
 use native.Mathlib.Omega.{arith}
 use Rattle.tree.proofs.Chains.{chain_up, chain_down, inside}
-use borrow.Author.Rules.{rules}
 use Rattle.tree.proofs.chain_at.Goals as goal
 
 pub returns-then-n-k : goal.returns-then-n-k

@@ -1,5 +1,4 @@
 use Rattle.tree.proofs.Chains.{drawn_more}
-use borrow.Author.Rules.{rules}
 use Rattle.tree.proofs.extend.Goals as goal
 
 pub returns : goal.returns

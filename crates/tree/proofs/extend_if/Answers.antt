@@ -1,5 +1,4 @@
 use Rattle.tree.proofs.Nodes.{make_one, make_none}
-use borrow.Author.Rules.{rules}
 use Rattle.tree.proofs.extend_if.Goals as goal
 
 pub returns-then-keep : goal.returns-then-keep

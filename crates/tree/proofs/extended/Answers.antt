@@ -1,7 +1,6 @@
 use mathlib.Core.Path.{refl}
 use native.Mathlib.Omega.{arith}
 use Rattle.tree.proofs.Chains.{spans_first, spans_next}
-use borrow.Author.Rules.{rules}
 use Rattle.tree.proofs.extended.Goals as goal
 
 pub returns-then-c-eq0 : goal.returns-then-c-eq0

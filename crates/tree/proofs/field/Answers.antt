@@ -1,6 +1,5 @@
 use Rattle.tree.proofs.TableRows.{read_at, read_row_out, read_out}
 use Rattle.definition.specs.Tree.{node_at}
-use borrow.Author.Rules.{rules}
 use Rattle.tree.proofs.field.Goals as goal
 
 pub returns-then-i-ge-MOST_IDENTIFIERS : goal.returns-then-i-ge-MOST_IDENTIFIERS

@@ -1,5 +1,4 @@
 use Rattle.tree.proofs.Nodes.{marked}
-use borrow.Author.Rules.{rules}
 use Rattle.tree.proofs.is_contradictory.Goals as goal
 
 pub returns : goal.returns

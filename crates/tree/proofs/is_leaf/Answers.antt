@@ -1,6 +1,5 @@
 use mathlib.Core.Path.{sym}
 use Rattle.tree.proofs.Paths.{leaf_as}
-use borrow.Author.Rules.{rules}
 use Rattle.tree.proofs.is_leaf.Goals as goal
 
 pub returns : goal.returns

@@ -1,5 +1,4 @@
 use Rattle.tree.proofs.Nodes.{link_root, link_child}
-use borrow.Author.Rules.{rules}
 use Rattle.tree.proofs.link.Goals as goal
 
 pub returns-then-place-eq-PLACE_ROOT : goal.returns-then-place-eq-PLACE_ROOT

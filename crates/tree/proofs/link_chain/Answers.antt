@@ -1,13 +1,6 @@
 use borrow.Author.Rules.{rules}
-use Prim.Native.Nat.{◌≤◌, ◌-◌}
-use mathlib.Core.Path.{◌≡◌}
-use mathlib.Core.List.{List}
-use lib.ListN.{length, drop}
-use Rattle.definition.specs.Limits.{most_identifiers}
-use Rattle.definition.specs.Tree.{Node, Place, link_chain}
-use Rattle.tree.specs.Lay.{place_code, Held}
-use Rattle.tree.specs.Chain.{chain_of, ChainBelow}
-use Rattle.tree.proofs.Chains.{Linking, linking_start, linking_next, linking_end, below_fits, chain_full}
+use Rattle.tree.specs.Chain.{chain_of}
+use Rattle.tree.proofs.Chains.{linking_start, linking_next, linking_end, below_fits, chain_full}
 use Rattle.tree.proofs.link_chain.Goals as goal
 
 pub returns-then-len-gt-MOST_IDENTIFIERS : goal.returns-then-len-gt-MOST_IDENTIFIERS

@@ -1,4 +1,3 @@
-use borrow.Author.Rules.{rules}
 use Prim.Native.Nat.{◌≤◌, ◌-◌}
 use mathlib.Core.Path.{◌≡◌}
 use mathlib.Core.List.{List}
@@ -7,7 +6,7 @@ use Rattle.definition.specs.Limits.{most_identifiers}
 use Rattle.definition.specs.Tree.{Node, Place, link_chain}
 use Rattle.tree.specs.Lay.{place_code, Held}
 use Rattle.tree.specs.Chain.{chain_of, ChainBelow}
-use Rattle.tree.proofs.Chains.{Linking, linking_start, linking_next, linking_end, below_fits, chain_full}
+use Rattle.tree.proofs.Chains.{Linking}
 use Rattle.tree.proofs.link_chain.Given as goal
 
 -- At every turn, linking what is left of the chain below the last node that was linked gives the whole chain linked.

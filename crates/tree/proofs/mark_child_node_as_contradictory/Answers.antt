@@ -1,6 +1,5 @@
 use mathlib.Core.Path.{refl}
 use Rattle.definition.specs.Tree.{marked_against}
-use borrow.Author.Rules.{rules}
 use Rattle.tree.proofs.mark_child_node_as_contradictory.Goals as goal
 
 pub returns : goal.returns

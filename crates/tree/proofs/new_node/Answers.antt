@@ -1,5 +1,4 @@
 use Rattle.tree.proofs.Nodes.{new_drawn}
-use borrow.Author.Rules.{rules}
 use Rattle.tree.proofs.new_node.Goals as goal
 
 pub returns : goal.returns

@@ -1,11 +1,4 @@
-use borrow.Author.Rules.{rules}
-use Prim.Native.Nat.{◌-◌}
-use mathlib.Core.Path.{◌≡◌}
-use mathlib.Core.List.{List}
-use lib.ListN.{length}
 use Rattle.definition.specs.Lists.{any}
-use Rattle.definition.specs.Tree.{Node, upward, path}
-use Rattle.tree.specs.Lay.{Lays}
 use Rattle.tree.proofs.Paths.{closes, climb_start, climb_none, climb_hit, climb_miss, climb_end}
 use Rattle.tree.proofs.path_is_contradictory.Goals as goal
 

@@ -1,5 +1,4 @@
 use Rattle.tree.proofs.Nodes.{put_full, put_out, put_none, put_store}
-use borrow.Author.Rules.{rules}
 use Rattle.tree.proofs.put_field.Goals as goal
 
 pub returns-then-len-gt-MOST_IDENTIFIERS : goal.returns-then-len-gt-MOST_IDENTIFIERS

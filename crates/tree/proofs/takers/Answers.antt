@@ -1,6 +1,5 @@
 use mathlib.Core.List.{[]}
 use Rattle.tree.proofs.Paths.{takers_none, takers_shut, takers_walked}
-use borrow.Author.Rules.{rules}
 use Rattle.tree.proofs.takers.Goals as goal
 
 pub returns-then-place_of : goal.returns-then-place_of

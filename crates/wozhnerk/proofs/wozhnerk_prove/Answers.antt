@@ -1,5 +1,4 @@
 use Rattle.wozhnerk.proofs.Exported.{contract_as}
-use borrow.Author.Rules.{rules}
 use Rattle.wozhnerk.proofs.wozhnerk_prove.Goals as goal
 
 pub returns : goal.returns

@@ -1,12 +1,10 @@
-use borrow.Author.Rules.{rules}
 use Prim.Native.Nat.{◌-◌, ◌*◌, ◌≤◌}
-use mathlib.Core.Path.{◌≡◌, ◌∙◌}
-use native.Mathlib.Omega.{arith}
+use mathlib.Core.Path.{◌≡◌}
 use Rattle.definition.specs.Limits.{graph_width}
 use Rattle.definition.specs.Graph.{Graph, edge}
 use Rattle.graph.specs.Drawn.{grid, Drawn}
-use Rattle.graph.proofs.Scan.{scanned, scan_start, scan_next, scan_end}
-use Rattle.graph.proofs.Drawn.{reflexives, reflexives_out, drawn_reflexive}
+use Rattle.graph.proofs.Scan.{scanned}
+use Rattle.graph.proofs.Drawn.{reflexives}
 use Rattle.graph.proofs.missing_vertices.add_missing_reflexive_vertices.Given as goal
 
 -- After n turns the array has the graph's edges and, of the first n pairs, those of a world with itself; beyond the rows of the worlds there are none.

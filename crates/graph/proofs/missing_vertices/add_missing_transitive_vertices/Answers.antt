@@ -1,12 +1,9 @@
 use borrow.Author.Rules.{rules}
-use Prim.Native.Nat.{◌-◌, ◌*◌, ◌≤◌}
-use mathlib.Core.Path.{◌≡◌, ◌∙◌}
+use mathlib.Core.Path.{◌∙◌}
 use mathlib.Core.Logic.{inl}
 use native.Mathlib.Omega.{arith}
-use Rattle.definition.specs.Limits.{graph_width}
-use Rattle.definition.specs.Graph.{Graph, edge}
-use Rattle.graph.specs.Drawn.{grid, Drawn}
-use Rattle.graph.proofs.Scan.{scanned, scan_start, scan_next, scan_end}
+use Rattle.definition.specs.Graph.{edge}
+use Rattle.graph.proofs.Scan.{scan_start, scan_next, scan_end}
 use Rattle.graph.proofs.Drawn.{transitives, transitives_out, drawn_transitive}
 use Rattle.graph.proofs.missing_vertices.add_missing_transitive_vertices.Goals as goal
 

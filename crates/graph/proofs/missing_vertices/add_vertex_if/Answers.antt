@@ -1,4 +1,3 @@
-use borrow.Author.Rules.{rules}
 use Rattle.graph.proofs.missing_vertices.add_vertex_if.Goals as goal
 
 pub returns-then-missing : goal.returns-then-missing

@@ -1,6 +1,5 @@
 use mathlib.Core.Path.{sym, ◌∙◌}
 use Rattle.definition.specs.Graph.{paired}
-use borrow.Author.Rules.{rules}
 use Rattle.graph.proofs.missing_vertices.is_paired.Goals as goal
 
 pub returns-then-not-contains : goal.returns-then-not-contains

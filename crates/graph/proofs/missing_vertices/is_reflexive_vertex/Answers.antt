@@ -1,5 +1,4 @@
 use borrow.Author.Tests.{lt-ltb, le-ltb}
-use borrow.Author.Rules.{rules}
 use Rattle.graph.proofs.missing_vertices.is_reflexive_vertex.Goals as goal
 
 pub returns-then-worlds-from : goal.returns-then-worlds-from

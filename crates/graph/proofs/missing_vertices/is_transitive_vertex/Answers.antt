@@ -1,13 +1,10 @@
 use borrow.Author.Rules.{rules}
-use Prim.Native.Nat.{◌-◌, ◌≤◌}
-use mathlib.Core.Path.{◌≡◌, sym, ◌∙◌}
+use mathlib.Core.Path.{sym, ◌∙◌}
 use mathlib.Core.Logic.{inl, inr}
 use native.Mathlib.Omega.{arith}
-use Rattle.definition.specs.Lists.{any, up_from}
-use Rattle.definition.specs.Graph.{Graph, paired}
-use Rattle.graph.specs.Drawn.{Drawn}
+use Rattle.definition.specs.Graph.{paired}
 use Rattle.graph.proofs.Scan.{at_row, any_none, any_hit, any_miss}
-use Rattle.graph.proofs.Drawn.{transitives, transitives_out, paths_start}
+use Rattle.graph.proofs.Drawn.{transitives_out, paths_start}
 use Rattle.graph.proofs.missing_vertices.is_transitive_vertex.Goals as goal
 
 pub returns-then-worlds-gt-GRAPH_WIDTH : goal.returns-then-worlds-gt-GRAPH_WIDTH

@@ -1,4 +1,3 @@
-use borrow.Author.Rules.{rules}
 use native.Mathlib.Omega.{arith}
 use Rattle.tree.proofs.Sequence.{room, count_full, count_more}
 use Rattle.tree.proofs.ProofTreeNodeIDSequence.advanced.Goals as goal

@@ -1,4 +1,3 @@
-use borrow.Author.Rules.{rules}
 use native.Mathlib.Omega.{arith}
 use Rattle.tree.proofs.Sequence.{room, id_none, id_next}
 use Rattle.tree.proofs.ProofTreeNodeIDSequence.current.Goals as goal
