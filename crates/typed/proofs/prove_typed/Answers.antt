@@ -4,6 +4,7 @@ use Rattle.prover.specs.Said.{said}
 use Rattle.reader.specs.Contract.{ReadText}
 use Rattle.typed.proofs.Offsets.{offset_low}
 use Rattle.typed.proofs.Whole.{records_fit, too_short, too_long, unreadable, read_and_run}
+use native.Mathlib.Omega.{arith}
 use borrow.Author.Rules.{rules}
 use Rattle.typed.proofs.prove_typed.Goals as goal
 
@@ -14,10 +15,10 @@ overflow_cast-result c =
     search (rules, low)
 
 pub slice_bounds-prove-end : goal.slice_bounds-prove-end
-slice_bounds-prove-end c = records_fit (subst (ReadText _ _ _) c.in-Taken.is c.read_text.ensures).2
+slice_bounds-prove-end c = omega (arith, records_fit (subst (ReadText _ _ _) c.in-Taken.is c.read_text.ensures).2)
 
 pub slice_bounds-prove-end-in-Taken : goal.slice_bounds-prove-end-in-Taken
-slice_bounds-prove-end-in-Taken c = sym (length-take-le _ _ (records_fit (subst (ReadText _ _ _) c.in-Taken.is c.read_text.ensures).2))
+slice_bounds-prove-end-in-Taken c = sym (length-take-le _ _ (omega (arith, records_fit (subst (ReadText _ _ _) c.in-Taken.is c.read_text.ensures).2)))
 
 pub returns-in-ShortTray : goal.returns-in-ShortTray
 unfolding said
