@@ -99,9 +99,8 @@ fn append_node(tray: &mut [u8], at: usize, nodes: &Nodes, x: ProofTreeNodeID) ->
     ensures { (ns : List Node) → Lays ns nodes.now → (node_at ns x.0).world < 256
         → Puts (node_bytes (node_at ns x.0)) at tray.old result tray.new }
 {
-    let w = writer(tray, at);
-    let from = w.at;
-    put_node(&mut *w.tray, from, nodes, x)
+    let w = append(writer(tray, at), nodes, x);
+    w.at
 }
 
 // The node tray: the records in order of identifier, then zeros.
