@@ -4,4 +4,4 @@ use Rattle.cases.proofs.reading.report.Goals as goal
 
 pub returns : goal.returns
 unfolding one_failed
-returns c = rw c.next.ensures
+returns g c = rw c.next.ensures
