@@ -1,7 +1,7 @@
 /* Necessary p, Possible Non p: proved. Then the same with a flag byte that has no meaning: refused. Then rules as text: the
  * README's example, open and with transitive proved; one that comes to the world limit, late; and a text that is garbled, with
  * the offset of the byte that is wrong.
- *     rt staticlib wozhnerk && cc -std=c99 -Wall -Wextra -pedantic -Iinclude examples/prove.c target/staticlib/libwozhnerk.a -o target/prove-c
+ *     tools/build wozhnerk && cc -std=c99 -Wall -Wextra -pedantic -Iinclude examples/prove.c target/staticlib/libwozhnerk.a -o target/prove-c
  */
 #include <stdio.h>
 #include <string.h>

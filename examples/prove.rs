@@ -1,7 +1,7 @@
 // Necessary p, Possible Non p: proved. Then the same with a flag byte that has no meaning: refused. Then rules as text: the
 // README's example, open and with transitive proved; one that comes to the world limit, late; and a text that is garbled, with
 // the offset of the byte that is wrong.
-//     rt staticlib wozhnerk && rustc --edition 2021 -L target/staticlib examples/prove.rs -o target/prove-rs
+//     tools/build wozhnerk && rustc --edition 2021 -L target/staticlib examples/prove.rs -o target/prove-rs
 #[link(name = "wozhnerk", kind = "static")]
 extern "C" {
     fn wozhnerk_prove(branch: *const u8, branch_length: usize, flags: u8, nodes: *mut u8, nodes_length: usize,

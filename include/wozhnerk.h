@@ -1,4 +1,4 @@
-/* The tableau prover for C and C++. `rt staticlib wozhnerk` writes target/staticlib/libwozhnerk.a, for x86-64 Linux. */
+/* The tableau prover for C and C++. `tools/build wozhnerk` writes target/staticlib/libwozhnerk.a, for x86-64 Linux. */
 #ifndef WOZHNERK_H
 #define WOZHNERK_H
 

@@ -1,3 +1,2 @@
 // The definition of the call, in specs/, and its laws, in proofs/; no code.
 #![tactic(auto)]
-

@@ -1,7 +1,6 @@
 // The numbers of definition/specs/Limits and specs/RefusalNumbers under the same names, the lengths of specs/Arrays, and a type for each array that is lent.
 #![tactic(auto)]
 
-
 pub const RECORD_LENGTH: usize = 6;
 
 pub const MOST_RECORDS: usize = 256;

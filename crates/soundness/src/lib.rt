@@ -1,3 +1,2 @@
 // Theorems about crates/definition, in specs/Claims.antt and proofs/; no code.
 #![tactic(auto)]
-

@@ -19,7 +19,7 @@ returns-then-branch-i c = λ few p. absurd (omega (arith, c.if-branch-i.true, c.
 
 pub loop-i-preserved : goal.loop-i-preserved
 unfolding record_of
-loop-i-preserved c = (search rules, λ p. reading_next _ (c.loop-i.invariant.1 p) _ c.loop-i-test.true (c.record_at-x.ensures.0 c.if-i-ge-MOST_RECORDS.false) c.push_input-n.ensures)
+loop-i-preserved c = (search rules, λ p. reading_next _ (c.loop-i.invariant.1 p) _ c.loop-i-test.true (c.record_at-x.ensures.0 (omega (arith, c.if-i-ge-MOST_RECORDS.false))) c.push_input-n.ensures)
 
 pub returns : goal.returns
 returns c = λ few p. reading_end _ (c.loop-i.invariant.1 p) c.loop-i-test.false

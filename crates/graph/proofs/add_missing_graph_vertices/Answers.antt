@@ -1,3 +1,4 @@
+use borrow.Author.Rules.{rules}
 use mathlib.Core.Path.{refl}
 use Rattle.graph.proofs.Forks.{ran, idle, ran_all}
 use Rattle.setting.specs.Asked.{asked}
@@ -6,14 +7,14 @@ use Rattle.graph.proofs.add_missing_graph_vertices.Goals.{then-setting, else-set
 
 pub returns-then-setting-3 : goal.returns-then-setting-3
 unfolding asked
-returns-then-setting-3 c = λ g d. ran_all _
-    (elim c.if-setting.branch [ then-setting w ↦ ran w.if-setting.true (λ h p. rw w.edges-is (w.add_missing_reflexive_vertices.ensures h p)) | else-setting w ↦ idle w.if-setting.false w.edges-is ])
-    (elim c.if-setting-2.branch [ then-setting-2 w ↦ ran w.if-setting-2.true (λ h p. rw w.edges-is (w.add_missing_symmetric_vertices.ensures h p)) | else-setting-2 w ↦ idle w.if-setting-2.false w.edges-is ])
-    (ran c.if-setting-3.true (λ h p. c.add_missing_transitive_vertices.ensures h p)) g d
+returns-then-setting-3 c = λ g d. ran_all _ {b = c.if-setting.edges} {c = c.if-setting-2.edges}
+    (elim c.if-setting.branch [ then-setting w ↦ ran w.if-setting.true (search rules) | else-setting w ↦ idle w.if-setting.false w.edges-is ])
+    (elim c.if-setting-2.branch [ then-setting-2 w ↦ ran w.if-setting-2.true (search rules) | else-setting-2 w ↦ idle w.if-setting-2.false w.edges-is ])
+    (ran c.if-setting-3.true (search rules)) g d
 
 pub returns-else-setting-3 : goal.returns-else-setting-3
 unfolding asked
-returns-else-setting-3 c = λ g d. ran_all _
-    (elim c.if-setting.branch [ then-setting w ↦ ran w.if-setting.true (λ h p. rw w.edges-is (w.add_missing_reflexive_vertices.ensures h p)) | else-setting w ↦ idle w.if-setting.false w.edges-is ])
-    (elim c.if-setting-2.branch [ then-setting-2 w ↦ ran w.if-setting-2.true (λ h p. rw w.edges-is (w.add_missing_symmetric_vertices.ensures h p)) | else-setting-2 w ↦ idle w.if-setting-2.false w.edges-is ])
+returns-else-setting-3 c = λ g d. ran_all _ {b = c.if-setting.edges} {c = c.if-setting-2.edges}
+    (elim c.if-setting.branch [ then-setting w ↦ ran w.if-setting.true (search rules) | else-setting w ↦ idle w.if-setting.false w.edges-is ])
+    (elim c.if-setting-2.branch [ then-setting-2 w ↦ ran w.if-setting-2.true (search rules) | else-setting-2 w ↦ idle w.if-setting-2.false w.edges-is ])
     (idle c.if-setting-3.false refl) g d

@@ -23,7 +23,7 @@ loop-n-preserved c = (
   λ s r h.
       let g = c.loop-n.invariant.1 s r h in
       let e = sym (c.stops.ensures _ g.now _ g.kept) ∙ c.if-stops.false in
-      going_next g c.loop-n-test.true e (c.step-p.ensures g.now g.reached g.kept),
+      going_next g (omega (arith, c.loop-n-test.true)) e (c.step-p.ensures g.now g.reached g.kept),
 )
 
 pub returns : goal.returns

@@ -18,4 +18,4 @@ returns-in-Refusal c = λ h. read_refusal _ _ (search rules) (search rules) ∙ 
 
 pub returns-else-worlds-gt255 : goal.returns-else-worlds-gt255
 unfolding said
-returns-else-worlds-gt255 c = λ h. rw (c.bit-p.ensures.0, c.bit-l.ensures.0) (read_verdict _ _ _ _ _ _ (search rules) (search rules) (search rules) c.if-worlds-gt255.false ∙ ap said (sym c.in-Verdict.is))
+returns-else-worlds-gt255 c = λ h. rw (c.bit-p.ensures.value, c.bit-l.ensures.value) (read_verdict _ _ _ _ _ _ (search rules) (search rules) (search rules) c.if-worlds-gt255.false ∙ ap said (sym c.in-Verdict.is))
