@@ -1,7 +1,5 @@
 use mathlib.Core.Logic.{inl, inr}
-use Prim.Native.Nat.{◌-◌}
-use borrow.Author.Rules.{rules}
-use Rattle.cases.proofs.Hex.{Decoding, decoding_start, decoding_length, decoding_end, decoding_next, hex_byte_lem}
+use Rattle.cases.proofs.Hex.{decoding_start, decoding_length, decoding_end, decoding_next, hex_byte_lem}
 use Rattle.cases.proofs.bytes.decode.Goals as goal
 
 pub loop-i-init : goal.loop-i-init

@@ -1,8 +1,5 @@
 use mathlib.Core.Logic.{inl, inr}
-use Prim.Native.Nat.{◌-◌}
-use lib.ListN.{length}
-use borrow.Author.Rules.{rules}
-use Rattle.cases.proofs.Words.{Starting, starting_start, starting_end, starting_found, starting_next}
+use Rattle.cases.proofs.Words.{starting_start, starting_end, starting_found, starting_next}
 use Rattle.cases.proofs.bytes.start_of.Goals as goal
 use Rattle.cases.proofs.bytes.start_of.Goals.{then-line-i-eq32, else-line-i-eq32}
 

@@ -1,4 +1,3 @@
-use borrow.Author.Rules.{rules}
 use Rattle.prover.specs.Said.{said}
 use Rattle.cases.specs.Compared.{answer_differs}
 use Rattle.cases.proofs.Differing.{verdict_differs_lem, then_trays, differs}

@@ -1,6 +1,5 @@
 use mathlib.Core.Path.{◌∙◌}
 use Rattle.cases.proofs.Lines.{byte_field}
-use borrow.Author.Rules.{rules}
 use Rattle.cases.proofs.digest.small.Goals as goal
 
 pub returns : goal.returns

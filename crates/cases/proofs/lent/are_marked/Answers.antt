@@ -1,9 +1,6 @@
 use mathlib.Core.Path.{sym, ◌∙◌}
-use Prim.Native.Nat.{◌-◌, ◌*◌}
-use borrow.Author.Rules.{rules}
-use Rattle.definition.specs.Limits.{node_length}
-use Rattle.cases.specs.Lent.{is_marked, are_marked}
-use Rattle.cases.proofs.Between.{Passing, between_start, between_end, between_miss, between_next}
+use Rattle.cases.specs.Lent.{are_marked}
+use Rattle.cases.proofs.Between.{between_start, between_end, between_miss, between_next}
 use Rattle.cases.proofs.lent.are_marked.Goals as goal
 
 pub loop-i-init : goal.loop-i-init

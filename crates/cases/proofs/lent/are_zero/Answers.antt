@@ -1,4 +1,3 @@
-use borrow.Author.Rules.{rules}
 use Rattle.cases.specs.Lent.{are_zero}
 use Rattle.cases.proofs.lent.are_zero.Goals as goal
 

@@ -1,5 +1,4 @@
 use borrow.Author.Tests.{le-leb, lt-leb}
-use borrow.Author.Rules.{rules}
 use Rattle.cases.specs.Lent.{formulas_agree}
 use Rattle.cases.proofs.lent.formulas_agree.Goals as goal
 

@@ -1,8 +1,4 @@
-use mathlib.Core.Path.{◌≡◌}
-use Prim.Native.Nat.{◌-◌, ◌≤◌}
-use lib.ListN.{length, take}
 use borrow.Author.Rules.{rules}
-use Rattle.cases.specs.File.{Takes}
 use Rattle.cases.proofs.Filed.{takes_none, takes_next, takes_end}
 use Rattle.cases.proofs.reading.feed_all.Goals as goal
 

@@ -1,9 +1,7 @@
 use mathlib.Core.Path.{◌≡◌}
 use Prim.Native.Nat.{◌-◌, ◌≤◌}
 use lib.ListN.{length, take}
-use borrow.Author.Rules.{rules}
 use Rattle.cases.specs.File.{Takes}
-use Rattle.cases.proofs.Filed.{takes_none, takes_next, takes_end}
 use Rattle.cases.proofs.reading.feed_all.Given as goal
 
 -- After i turns the line and q are what the first i bytes of the part make of the line and p at the start.

@@ -1,4 +1,3 @@
-use borrow.Author.Rules.{rules}
 use Rattle.cases.proofs.Tallied.{finished_empty, finished_comment, finished_case}
 use Rattle.cases.proofs.reading.finish.Goals as goal
 

@@ -1,4 +1,3 @@
-use borrow.Author.Rules.{rules}
 use Rattle.cases.specs.Tally.{judged}
 use Rattle.cases.proofs.reading.judge.Goals as goal
 

@@ -1,5 +1,5 @@
 use borrow.Author.Rules.{rules}
-use Rattle.cases.proofs.Filed.{Begun, begun_start, begun_next, file_whole, file_broken}
+use Rattle.cases.proofs.Filed.{begun_start, begun_next, file_whole, file_broken}
 use Rattle.cases.proofs.reading.read_file.Goals as goal
 
 pub loop-reads-init : goal.loop-reads-init

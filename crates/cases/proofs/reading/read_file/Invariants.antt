@@ -1,5 +1,4 @@
-use borrow.Author.Rules.{rules}
-use Rattle.cases.proofs.Filed.{Begun, begun_start, begun_next, file_whole, file_broken}
+use Rattle.cases.proofs.Filed.{Begun}
 use Rattle.cases.proofs.reading.read_file.Given as goal
 
 -- After each read the line and p are what the bytes read so far make of an empty line and the tally at the start; each return answers from p's tally.

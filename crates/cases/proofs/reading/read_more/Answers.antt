@@ -1,4 +1,3 @@
-use borrow.Author.Rules.{rules}
 use Rattle.cases.specs.File.{failed, ended, went}
 use Rattle.cases.proofs.reading.read_more.Goals as goal
 

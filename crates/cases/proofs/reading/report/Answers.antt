@@ -1,4 +1,3 @@
-use borrow.Author.Rules.{rules}
 use Rattle.cases.specs.Tally.{one_failed}
 use Rattle.cases.proofs.reading.report.Goals as goal
 
