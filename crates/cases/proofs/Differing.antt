@@ -1,11 +1,9 @@
 -- The call and the line, from what their parts give.
 use mathlib.Core.Path.{◌≡◌, refl, ap, ◌∙◌}
 use mathlib.Core.Bool.{Bool}
-use mathlib.Core.List.{List, [], ◌∷◌, ◌++◌}
+use mathlib.Core.List.{List, ◌++◌}
 use Prim.Native.Nat.{ℕ, ◌≤◌, ◌<◌, min}
 use native.Mathlib.Omega.{arith}
-use types.Run.{OneOf, miss}
-use denote.Enum.Declared.{tag_of}
 use lib.ListN.{length, take, drop}
 use lib.Seq.{take_at}
 use borrow.Author.Tests.{le-ltb}
@@ -19,7 +17,6 @@ use Rattle.cases.specs.Compared.{branch_of, expected_of, trays_differ, verdict_d
 use Rattle.cases.specs.declared.compare.Difference.{Difference}
 use Rattle.cases.specs.declared.compare.Difference.TheVariants as D
 use Rattle.cases.specs.declared.compare.Expected.{Expected}
-use Rattle.cases.specs.contracts.compare.Difference.{the_type}
 use Rattle.cases.proofs.Hex.{length_decoded}
 
 -- a verdict, by the difference of its letter and counts
@@ -37,9 +34,9 @@ unfolding or_else
 then_trays e h = rw e h
 
 -- the arm of all differences but Nothing
-pub differs : (d rest : Difference) → OneOf (1 ∷ 2 ∷ 3 ∷ 4 ∷ 5 ∷ 6 ∷ 7 ∷ []) (tag_of the_type d) → d ≡ or_else d rest
+pub differs : (d rest : Difference) → (d ≡ D.Nothing → ⊥) → d ≡ or_else d rest
 unfolding or_else
-differs D.Nothing rest h = absurd (miss (1 ∷ 2 ∷ 3 ∷ 4 ∷ 5 ∷ 6 ∷ 7 ∷ []) 0 tt h)
+differs D.Nothing rest h = absurd (h refl)
 differs D.Form rest h = refl
 differs D.Verdict rest h = refl
 differs D.Identifiers rest h = refl

@@ -14,7 +14,7 @@ use Rattle.cases.specs.Text.{fed, Fed, number_or_none}
 fed_append : (d : Digest) (xs ys : List ℕ) → fed d (xs ++ ys) ≡ fed (fed d xs) ys
 unfolding fed
 fed_append d [] ys = refl
-fed_append d (x ∷ xs) ys = fed_append _ xs ys
+fed_append d (x ∷ xs) ys = fed_append (record { first = (d.first * 257 + x) % 2147483647; second = (d.second * 257 + x) % 2147483629 }) xs ys
 
 pub and_then : {d r q : Digest} {xs ys : List ℕ} → Fed d xs r → Fed r ys q → Fed d (xs ++ ys) q
 and_then {d} {r} {q} {xs} {ys} e h = record { is = h.is ∙ ap (λ (x : Digest). fed x ys) e.is ∙ sym (fed_append d xs ys) }

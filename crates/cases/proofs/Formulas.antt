@@ -14,24 +14,10 @@ use Rattle.cases.specs.Text.{Fed, letter_of, has_one, name_of, LinksAt, linked, 
 use Rattle.cases.proofs.Fed.{and_then}
 
 -- ---- kinds
-abbrev Not : ℕ → ℕ → Type 0
-Not kind n = kind ≡ n → ⊥
-
--- none of the kinds 1 to 8 and 0, in the order of the match
-abbrev Unnamed : ℕ → Type 0
-Unnamed kind =
-    ((((((((Unit {0} × Not kind 1) × Not kind 2) × Not kind 3) × Not kind 4) × Not kind 5) × Not kind 6) × Not kind 7) × Not kind 8) × Not kind 0
-
-above : (kind : ℕ) → Unnamed kind → 9 ≤ kind
-above kind n =
-    let a : 3 ≤ kind = omega (arith, n.1, n.0.0.0.0.0.0.0.0.1, n.0.0.0.0.0.0.0.1) in
-    let b : 6 ≤ kind = omega (arith, a, n.0.0.0.0.0.0.1, n.0.0.0.0.0.1, n.0.0.0.0.1) in
-    omega (arith, b, n.0.0.0.1, n.0.0.1, n.0.1)
-
-pub no_letter : (kind : ℕ) → Unnamed kind → 63 ≡ letter_of kind
+-- none of the kinds 0 to 8
+pub no_letter : (kind : ℕ) → 9 ≤ kind → 63 ≡ letter_of kind
 unfolding letter_of
-no_letter kind n =
-    sym (get_or-eq_default (63 ∷ 78 ∷ 67 ∷ 68 ∷ 73 ∷ 66 ∷ 83 ∷ 80 ∷ 76 ∷ []) 63 {n = kind} (above kind n))
+no_letter kind above = sym (get_or-eq_default (63 ∷ 78 ∷ 67 ∷ 68 ∷ 73 ∷ 66 ∷ 83 ∷ 80 ∷ 76 ∷ []) 63 {n = kind} above)
 
 pub in_two : (kind : ℕ) → 2 ≤ kind → kind < 7 → false ≡ has_one kind
 unfolding has_one

@@ -17,13 +17,11 @@ use Rattle.grammar.specs.Reading.{At, UnreadableAt}
 use Rattle.grammar.specs.Lines.{lines_from, tray_of}
 use Rattle.grammar.proofs.Theorems.{one_reading, one_offset, apart}
 use Rattle.grammar.proofs.Decoded.{length_bytes, tray_prefix}
-use Rattle.reader.specs.Contract.{ReadText, Taken}
+use Rattle.reader.specs.Contract.{ReadText}
 use Rattle.reader.specs.declared.Reading.{Reading}
-use Rattle.reader.specs.declared.Reading.TheVariants as Reading
 use Rattle.frames.specs.Lines.{eight_lines, refusal_lines}
 use Rattle.typed_text.specs.Showing.{Stand, ShownAs}
 use Rattle.typed_text.specs.declared.Shown.{Shown}
-use Rattle.typed_text.specs.declared.Shown.TheVariants as Shown
 
 -- every token begins within the bytes
 begins_within : {o : ℕ} {bs : List ℕ} {ts : List Placed} → Lexes o bs ts → Each (λ (x : Placed). x.at ≤ o + length bs) ts

@@ -10,11 +10,8 @@ use Rattle.grammar.specs.Reading.{Reads, UnreadableAt}
 use Rattle.grammar.specs.Lines.{lines_from}
 use Rattle.frames.specs.Lines.{eight_lines, refusal_lines}
 use Rattle.frames.specs.declared.Ran.{Ran}
-use Rattle.frames.specs.declared.Ran.TheVariants as Ran
 use Rattle.typed_text.specs.declared.Shown.{Shown}
-use Rattle.typed_text.specs.declared.Shown.TheVariants as Shown
 use Rattle.typed_text.specs.declared.Input.{Input}
-use Rattle.typed_text.specs.declared.Input.TheVariants as Input
 
 -- the lines of a text: "14 "long slip", above 4,096 bytes, which comes before 13"; "13 "garbled", with the byte offset";
 -- of a text that is taken, the eight lines of its records

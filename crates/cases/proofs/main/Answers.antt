@@ -1,5 +1,3 @@
-use Prim.Native.Nat.{◌-◌}
-use borrow.Author.Rules.{rules}
 use Rattle.cases.proofs.main.Goals as goal
 
 pub loop-i-init : goal.loop-i-init

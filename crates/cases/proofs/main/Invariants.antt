@@ -1,5 +1,4 @@
 use Prim.Native.Nat.{◌-◌}
-use borrow.Author.Rules.{rules}
 use Rattle.cases.proofs.main.Given as goal
 
 -- Each turn checks one file, and `count - i` falls to 0; nothing is claimed of the tally.

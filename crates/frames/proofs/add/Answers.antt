@@ -1,6 +1,5 @@
 use mathlib.Core.Path.{sym}
 use native.Mathlib.Omega.{arith}
-use borrow.Author.Rules.{rules}
 use Rattle.frames.proofs.Windows.{window_exact, window_sum}
 use Rattle.frames.proofs.add.Goals as goal
 use Rattle.frames.proofs.add.Goals.{then-seen-le-WINDOW_LENGTH+else-n-seen, else-seen-le-WINDOW_LENGTH}

@@ -2,7 +2,6 @@ use mathlib.Core.Path.{subst}
 use Rattle.frames.specs.Window.{Reads}
 use Rattle.frames.proofs.Windows.{windowed_counts}
 use Rattle.frames.proofs.Frames.{printed}
-use borrow.Author.Rules.{rules}
 use Rattle.frames.proofs.answer_input.Goals as goal
 
 pub lines_of-printed-requires : goal.lines_of-printed-requires

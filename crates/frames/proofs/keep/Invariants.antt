@@ -1,8 +1,7 @@
 use mathlib.Core.Path.{◌≡◌}
 use Prim.Native.Nat.{◌-◌, ◌≤◌}
-use borrow.Author.Rules.{rules}
 use lib.ListN.{length}
-use Rattle.frames.proofs.Texts.{Copied, copy_start, copy_next, kept_all}
+use Rattle.frames.proofs.Texts.{Copied}
 use Rattle.frames.proofs.keep.Given as goal
 
 -- After i turns the first i bytes of the part stand among those kept from `seen` on, and the rest is as it was; n is how many there is room for.

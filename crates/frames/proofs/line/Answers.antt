@@ -1,5 +1,4 @@
 use Rattle.frames.proofs.Texts.{put_counts}
-use borrow.Author.Rules.{rules}
 use Rattle.frames.proofs.line.Goals as goal
 
 pub returns : goal.returns

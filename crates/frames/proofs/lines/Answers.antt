@@ -1,7 +1,4 @@
-use Prim.Native.Nat.{◌*◌, ◌-◌, ◌≤◌}
-use Rattle.frames.specs.Line.{line_length}
-use Rattle.frames.specs.Lines.{lines_below, answers_of}
-use Rattle.frames.specs.Put.{Put}
+use Rattle.frames.specs.Lines.{answers_of}
 use Rattle.frames.proofs.Frames.{lines_none, lines_next, lines_all}
 use borrow.Author.Rules.{rules}
 use Rattle.frames.proofs.lines.Goals as goal

@@ -2,8 +2,6 @@ use Prim.Native.Nat.{◌*◌, ◌-◌, ◌≤◌}
 use Rattle.frames.specs.Line.{line_length}
 use Rattle.frames.specs.Lines.{lines_below, answers_of}
 use Rattle.frames.specs.Put.{Put}
-use Rattle.frames.proofs.Frames.{lines_none, lines_next, lines_all}
-use borrow.Author.Rules.{rules}
 use Rattle.frames.proofs.lines.Given as goal
 
 -- After each turn the lines of the frames before `flags` stand at the start of the text, and `at` is where they end; after eight turns these are all lines.

@@ -1,8 +1,5 @@
-use mathlib.Core.Path.{◌≡◌}
-use Prim.Native.Nat.{◌-◌, ◌≤◌}
 use borrow.Author.Rules.{rules}
-use lib.ListN.{length}
-use Rattle.frames.proofs.Texts.{Copied, copy_start, copy_next, copied_all}
+use Rattle.frames.proofs.Texts.{copy_start, copy_next, copied_all}
 use Rattle.frames.proofs.put.Goals as goal
 
 pub loop-i-init : goal.loop-i-init

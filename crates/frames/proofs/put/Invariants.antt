@@ -1,8 +1,7 @@
 use mathlib.Core.Path.{◌≡◌}
 use Prim.Native.Nat.{◌-◌, ◌≤◌}
-use borrow.Author.Rules.{rules}
 use lib.ListN.{length}
-use Rattle.frames.proofs.Texts.{Copied, copy_start, copy_next, copied_all}
+use Rattle.frames.proofs.Texts.{Copied}
 use Rattle.frames.proofs.put.Given as goal
 
 -- After i turns the first i bytes stand in the text from `at` on, and the rest of the text is as it was.

@@ -1,7 +1,6 @@
 use mathlib.Core.Path.{refl}
 use Rattle.definition.specs.Trays.{zero_trays}
 use Rattle.frames.proofs.Frames.{put_answer}
-use borrow.Author.Rules.{rules}
 use Rattle.frames.proofs.put_frame.Goals as goal
 
 pub returns-clause-put : goal.returns-clause-put

@@ -1,5 +1,4 @@
 use Rattle.frames.proofs.Texts.{put_refused, put_verdict}
-use borrow.Author.Rules.{rules}
 use Rattle.frames.proofs.put_line.Goals as goal
 
 pub returns-in-Refusal-clause-put : goal.returns-in-Refusal-clause-put

@@ -1,5 +1,4 @@
 use Rattle.frames.proofs.Texts.{put_three}
-use borrow.Author.Rules.{rules}
 use Rattle.frames.proofs.put_refusal.Goals as goal
 
 pub returns-clause-put : goal.returns-clause-put

@@ -1,5 +1,4 @@
 use Rattle.prover.specs.Said.{said}
-use borrow.Author.Rules.{rules}
 use Rattle.frames.proofs.put_refused.Goals as goal
 
 pub returns-clause-put : goal.returns-clause-put

@@ -1,6 +1,5 @@
 use mathlib.Core.Bool.{true, false}
 use mathlib.Core.Path.{refl}
-use borrow.Author.Rules.{rules}
 use Rattle.frames.specs.Line.{word_of}
 use Rattle.frames.proofs.Texts.{put_word}
 use Rattle.frames.proofs.put_word.Goals as goal

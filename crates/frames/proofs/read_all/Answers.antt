@@ -1,6 +1,5 @@
-use mathlib.Core.Path.{◌≡◌, subst}
-use lib.ListN.{length}
-use Rattle.frames.specs.Window.{Windowed, ReadsMore}
+use mathlib.Core.Path.{subst}
+use Rattle.frames.specs.Window.{ReadsMore}
 use Rattle.frames.proofs.Windows.{windowed_none}
 use borrow.Author.Rules.{rules}
 use Rattle.frames.proofs.read_all.Goals as goal

@@ -1,8 +1,6 @@
-use mathlib.Core.Path.{◌≡◌, subst}
+use mathlib.Core.Path.{◌≡◌}
 use lib.ListN.{length}
-use Rattle.frames.specs.Window.{Windowed, ReadsMore}
-use Rattle.frames.proofs.Windows.{windowed_none}
-use borrow.Author.Rules.{rules}
+use Rattle.frames.specs.Window.{Windowed}
 use Rattle.frames.proofs.read_all.Given as goal
 
 -- After each read the bytes kept and `seen` are the window of what was read so far; at the end of the input they stay as they are.

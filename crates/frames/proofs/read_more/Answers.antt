@@ -1,5 +1,4 @@
 use Rattle.frames.proofs.Windows.{windowed_kept}
-use borrow.Author.Rules.{rules}
 use Rattle.frames.proofs.read_more.Goals as goal
 
 pub returns-in-Ok : goal.returns-in-Ok

@@ -1,7 +1,4 @@
-use Prim.Native.Nat.{◌*◌, ◌-◌, ◌≤◌}
-use Rattle.frames.specs.Line.{line_length}
-use Rattle.frames.specs.Lines.{lines_below, refusals}
-use Rattle.frames.specs.Put.{Put}
+use Rattle.frames.specs.Lines.{refusals}
 use Rattle.frames.proofs.Frames.{lines_none, lines_next, lines_all}
 use borrow.Author.Rules.{rules}
 use Rattle.frames.proofs.refusal_lines.Goals as goal

@@ -2,8 +2,6 @@ use Prim.Native.Nat.{◌*◌, ◌-◌, ◌≤◌}
 use Rattle.frames.specs.Line.{line_length}
 use Rattle.frames.specs.Lines.{lines_below, refusals}
 use Rattle.frames.specs.Put.{Put}
-use Rattle.frames.proofs.Frames.{lines_none, lines_next, lines_all}
-use borrow.Author.Rules.{rules}
 use Rattle.frames.proofs.refusal_lines.Given as goal
 
 -- As in `lines`, with one refusal for every flag.

@@ -1,7 +1,6 @@
 use mathlib.Core.Path.{◌≡◌}
 use Prim.Native.Nat.{◌-◌}
 use lib.ListN.{length}
-use borrow.Author.Rules.{rules}
 use Rattle.frames_cases.proofs.put_atoms.Given as goal
 
 -- Every turn keeps the branch's length, and `count - n` falls to 0; nothing is claimed of the bytes.

@@ -1,7 +1,3 @@
-use mathlib.Core.Path.{◌≡◌}
-use Prim.Native.Nat.{◌-◌, ◌≤◌}
-use lib.ListN.{length}
-use borrow.Author.Rules.{rules}
 use Rattle.frames_cases.proofs.put_chain.Goals as goal
 
 pub returns-then-n-gt300 : goal.returns-then-n-gt300

@@ -1,7 +1,6 @@
 use mathlib.Core.Path.{◌≡◌}
 use Prim.Native.Nat.{◌-◌, ◌≤◌}
 use lib.ListN.{length}
-use borrow.Author.Rules.{rules}
 use Rattle.frames_cases.proofs.put_chain.Given as goal
 
 -- Every turn keeps the branch's length, and n is at least 1, so that n - 1 is the record before; `count - n` falls to 0, and nothing is claimed of the bytes.

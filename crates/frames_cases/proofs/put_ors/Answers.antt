@@ -1,7 +1,3 @@
-use mathlib.Core.Path.{◌≡◌}
-use Prim.Native.Nat.{◌-◌}
-use lib.ListN.{length}
-use borrow.Author.Rules.{rules}
 use Rattle.frames_cases.proofs.put_ors.Goals as goal
 
 pub returns-then-n-ge100 : goal.returns-then-n-ge100

@@ -1,7 +1,6 @@
 use mathlib.Core.Path.{◌≡◌}
 use Prim.Native.Nat.{◌-◌}
 use lib.ListN.{length}
-use borrow.Author.Rules.{rules}
 use Rattle.frames_cases.proofs.put_ors.Given as goal
 
 -- Every turn keeps the branch's length, and puts records only while n is below 100; `count - i` falls to 0, and nothing is claimed of the bytes.

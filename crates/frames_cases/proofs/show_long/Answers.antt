@@ -1,7 +1,5 @@
 use lib.Seq.{length-take-le}
-use mathlib.Core.Path.{◌≡◌, sym}
-use Prim.Native.Nat.{◌≤◌}
-use lib.ListN.{length}
+use mathlib.Core.Path.{sym}
 use borrow.Author.Rules.{rules}
 use Rattle.frames_cases.proofs.show_long.Goals as goal
 

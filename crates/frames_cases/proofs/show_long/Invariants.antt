@@ -1,8 +1,6 @@
-use lib.Seq.{length-take-le}
-use mathlib.Core.Path.{◌≡◌, sym}
+use mathlib.Core.Path.{◌≡◌}
 use Prim.Native.Nat.{◌≤◌}
 use lib.ListN.{length}
-use borrow.Author.Rules.{rules}
 use Rattle.frames_cases.proofs.show_long.Given as goal
 
 -- Every turn keeps the branch's length and takes one part of 4,096 bytes from what is left; what is left at the end is within one part.

@@ -1,5 +1,3 @@
-use borrow.Author.Rules.{rules}
-use Prim.Native.Nat.{◌-◌}
 use Rattle.typed_cases.proofs.digest.Goals as goal
 
 pub loop-i-init : goal.loop-i-init

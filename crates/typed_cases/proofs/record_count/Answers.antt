@@ -1,5 +1,3 @@
-use borrow.Author.Rules.{rules}
-use Prim.Native.Nat.{◌-◌}
 use Rattle.typed_cases.proofs.record_count.Goals as goal
 
 pub loop-n-init : goal.loop-n-init

@@ -1,5 +1,3 @@
-use borrow.Author.Rules.{rules}
-use Prim.Native.Nat.{◌-◌}
 use Rattle.typed_cases.proofs.record_count.Given as goal
 
 abbrev pub invariant-loop-n : goal.invariant-loop-n

@@ -1,7 +1,3 @@
-use borrow.Author.Rules.{rules}
-use mathlib.Core.Path.{◌≡◌}
-use Prim.Native.Nat.{◌-◌}
-use lib.ListN.{length}
 use Rattle.typed_frames_cases.proofs.repeat.Goals as goal
 
 pub returns-then-text-gt0 : goal.returns-then-text-gt0

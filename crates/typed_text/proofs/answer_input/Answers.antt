@@ -1,6 +1,5 @@
 use mathlib.Core.Path.{subst}
 use Rattle.typed_text.specs.Showing.{Kept}
-use borrow.Author.Rules.{rules}
 use Rattle.typed_text.proofs.answer_input.Goals as goal
 
 pub answer_text-printed-requires : goal.answer_text-printed-requires

@@ -1,7 +1,6 @@
 use mathlib.Core.Path.{subst}
 use Rattle.typed_text.specs.Showing.{ShownAs}
 use Rattle.typed_text.proofs.Whole.{answered}
-use borrow.Author.Rules.{rules}
 use Rattle.typed_text.proofs.answer_text.Goals as goal
 
 pub report-requires : goal.report-requires

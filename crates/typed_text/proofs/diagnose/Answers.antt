@@ -1,5 +1,4 @@
 use Rattle.typed_text.proofs.Marks.{put_diagnosis}
-use borrow.Author.Rules.{rules}
 use Rattle.typed_text.proofs.diagnose.Goals as goal
 
 pub returns : goal.returns

@@ -1,6 +1,5 @@
 use mathlib.Core.Path.{refl}
 use native.Mathlib.Omega.{arith}
-use borrow.Author.Rules.{rules}
 use Rattle.typed_text.proofs.diagnosis.Goals as goal
 
 pub returns-then-text-at : goal.returns-then-text-at

@@ -1,6 +1,5 @@
 use native.Mathlib.Omega.{arith}
 use Rattle.typed_text.proofs.Places.{glyph_low, glyph_high}
-use borrow.Author.Rules.{rules}
 use Rattle.typed_text.proofs.digit.Goals as goal
 
 pub returns-then-n-lt10 : goal.returns-then-n-lt10

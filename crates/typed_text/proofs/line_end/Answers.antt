@@ -1,8 +1,5 @@
 use borrow.Author.Rules.{rules}
-use mathlib.Core.Path.{◌≡◌, refl, sym, ◌∙◌}
-use Prim.Native.Nat.{◌≤◌, ◌-◌}
-use lib.ListN.{length}
-use Rattle.typed_text.specs.Diagnosis.{line_end}
+use mathlib.Core.Path.{refl, sym, ◌∙◌}
 use Rattle.typed_text.proofs.Places.{end_newline, end_next, end_over}
 use Rattle.typed_text.proofs.line_end.Goals as goal
 

@@ -1,9 +1,7 @@
-use borrow.Author.Rules.{rules}
-use mathlib.Core.Path.{◌≡◌, refl, sym, ◌∙◌}
+use mathlib.Core.Path.{◌≡◌}
 use Prim.Native.Nat.{◌≤◌, ◌-◌}
 use lib.ListN.{length}
 use Rattle.typed_text.specs.Diagnosis.{line_end}
-use Rattle.typed_text.proofs.Places.{end_newline, end_next, end_over}
 use Rattle.typed_text.proofs.line_end.Given as goal
 
 -- No newline stands from `at` to `i`, so that the line ends where it does from `i` on.

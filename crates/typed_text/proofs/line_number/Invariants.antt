@@ -1,9 +1,6 @@
-use borrow.Author.Rules.{rules}
-use mathlib.Core.Path.{◌≡◌, ◌∙◌, ap}
+use mathlib.Core.Path.{◌≡◌}
 use Prim.Native.Nat.{◌+◌, ◌≤◌, ◌-◌}
-use native.Mathlib.Omega.{arith}
 use Rattle.typed_text.specs.Diagnosis.{line_number}
-use Rattle.typed_text.proofs.Places.{number_start, number_next}
 use Rattle.typed_text.proofs.line_number.Given as goal
 
 -- After each turn `number` is that of the line in which the offset `i` stands.

@@ -1,6 +1,5 @@
 use borrow.Author.Rules.{rules}
-use mathlib.Core.Path.{◌≡◌, ◌∙◌, ap}
-use Prim.Native.Nat.{◌≤◌, ◌-◌}
+use mathlib.Core.Path.{◌∙◌, ap}
 use Rattle.typed_text.specs.Diagnosis.{line_start}
 use Rattle.typed_text.proofs.Places.{start_start, start_next}
 use Rattle.typed_text.proofs.line_start.Goals as goal

@@ -1,8 +1,6 @@
-use borrow.Author.Rules.{rules}
-use mathlib.Core.Path.{◌≡◌, ◌∙◌, ap}
+use mathlib.Core.Path.{◌≡◌}
 use Prim.Native.Nat.{◌≤◌, ◌-◌}
 use Rattle.typed_text.specs.Diagnosis.{line_start}
-use Rattle.typed_text.proofs.Places.{start_start, start_next}
 use Rattle.typed_text.proofs.line_start.Given as goal
 
 -- After each turn `start` is where the line begins in which the offset `i` stands.

@@ -1,5 +1,4 @@
 use Rattle.typed_text.proofs.Marks.{put_space, put_spaces}
-use borrow.Author.Rules.{rules}
 use Rattle.typed_text.proofs.put_blank.Goals as goal
 
 pub returns-then-is_plain : goal.returns-then-is_plain

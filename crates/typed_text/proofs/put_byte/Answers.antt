@@ -1,5 +1,4 @@
 use Rattle.typed_text.proofs.Marks.{put_as_blank, put_as_shown}
-use borrow.Author.Rules.{rules}
 use Rattle.typed_text.proofs.put_byte.Goals as goal
 
 pub returns-then-blanks : goal.returns-then-blanks

@@ -1,7 +1,6 @@
 use borrow.Author.Rules.{rules}
-use Prim.Native.Nat.{◌-◌}
 use native.Mathlib.Omega.{arith}
-use Rattle.typed_text.proofs.Marks.{Putting, putting_start, putting_next, putting_all}
+use Rattle.typed_text.proofs.Marks.{putting_start, putting_next, putting_all}
 use Rattle.typed_text.proofs.put_bytes.Goals as goal
 
 pub loop-i-init : goal.loop-i-init

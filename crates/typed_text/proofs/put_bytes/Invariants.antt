@@ -1,7 +1,5 @@
-use borrow.Author.Rules.{rules}
 use Prim.Native.Nat.{◌-◌}
-use native.Mathlib.Omega.{arith}
-use Rattle.typed_text.proofs.Marks.{Putting, putting_start, putting_next, putting_all}
+use Rattle.typed_text.proofs.Marks.{Putting}
 use Rattle.typed_text.proofs.put_bytes.Given as goal
 
 -- After each turn the bytes before `i` are put, and `to` is where they end.

@@ -1,6 +1,5 @@
 use mathlib.Core.Path.{refl}
 use Rattle.typed_text.proofs.Marks.{put_heading}
-use borrow.Author.Rules.{rules}
 use Rattle.typed_text.proofs.put_heading.Goals as goal
 
 pub returns-clause-put : goal.returns-clause-put

@@ -1,5 +1,4 @@
 use Rattle.typed_text.proofs.Marks.{put_place}
-use borrow.Author.Rules.{rules}
 use Rattle.typed_text.proofs.put_place.Goals as goal
 
 pub returns-clause-put : goal.returns-clause-put

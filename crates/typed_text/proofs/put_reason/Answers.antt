@@ -1,7 +1,6 @@
 use mathlib.Core.Bool.{true, false}
 use Rattle.typed_text.specs.Diagnosis.{reason}
 use Rattle.typed_text.proofs.Marks.{put_reason}
-use borrow.Author.Rules.{rules}
 use Rattle.typed_text.proofs.put_reason.Goals as goal
 
 pub returns-then-short : goal.returns-then-short

@@ -1,7 +1,4 @@
 use borrow.Author.Rules.{rules}
-use mathlib.Core.Path.{◌≡◌}
-use Prim.Native.Nat.{◌≤◌, ◌-◌}
-use lib.ListN.{length}
 use Rattle.typed_text.proofs.Whole.{counted}
 use Rattle.typed_text.proofs.read_all.Goals as goal
 

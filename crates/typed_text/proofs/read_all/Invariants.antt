@@ -1,8 +1,6 @@
-use borrow.Author.Rules.{rules}
 use mathlib.Core.Path.{◌≡◌}
 use Prim.Native.Nat.{◌≤◌, ◌-◌}
 use lib.ListN.{length}
-use Rattle.typed_text.proofs.Whole.{counted}
 use Rattle.typed_text.proofs.read_all.Given as goal
 
 -- The bytes kept stay as many as were lent; each read adds at least one to those seen.

@@ -1,6 +1,5 @@
 use mathlib.Core.Path.{refl}
 use native.Mathlib.Omega.{arith}
-use borrow.Author.Rules.{rules}
 use Rattle.typed_text.proofs.run.Goals as goal
 
 pub returns-then-words-gt1 : goal.returns-then-words-gt1

@@ -1,7 +1,6 @@
 use Rattle.definition.specs.Limits.{text_tray_length}
 use native.Mathlib.Omega.{arith}
 use Rattle.typed_text.proofs.Whole.{no_short, long_stands, offset_short, unreadable_stands, taken_room, taken_stands}
-use borrow.Author.Rules.{rules}
 use Rattle.typed_text.proofs.show.Goals as goal
 
 pub overflow_cast-at : goal.overflow_cast-at

@@ -1,6 +1,5 @@
 use mathlib.Core.Path.{sym}
 use lib.Seq.{length-take-le}
-use borrow.Author.Rules.{rules}
 use Rattle.typed_text.proofs.tray_lines.Goals as goal
 
 pub slice_bounds-lines-end : goal.slice_bounds-lines-end

@@ -1,9 +1,7 @@
 use Prim.Native.Nat.{◌-◌}
 use lib.Dec.{eqb}
 use lib.ListN.{get_or}
-use borrow.Author.Rules.{rules}
-use Rattle.cases.specs.Bytes.{filled}
-use Rattle.cases.proofs.Between.{Passing, between_start, between_end, between_miss, between_next, read_equal, read_unequal}
+use Rattle.cases.proofs.Between.{Passing}
 use Rattle.cases.proofs.bytes.all.Given as goal
 
 -- The bytes from `from` to below i have the value; at every turn those from i on decide.

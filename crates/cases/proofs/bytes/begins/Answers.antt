@@ -1,9 +1,5 @@
-use Prim.Native.Nat.{◌-◌}
-use lib.Dec.{eqb}
-use lib.ListN.{length, get_or}
-use borrow.Author.Rules.{rules}
 use Rattle.cases.specs.Bytes.{begins_with}
-use Rattle.cases.proofs.Between.{Passing, between_start, between_end, between_miss, between_next, read_equal, read_unequal}
+use Rattle.cases.proofs.Between.{between_start, between_end, between_miss, between_next, read_equal, read_unequal}
 use Rattle.cases.proofs.bytes.begins.Goals as goal
 
 pub loop-i-init : goal.loop-i-init

@@ -1,7 +1,5 @@
-use mathlib.Core.Logic.{inl, inr}
 use Prim.Native.Nat.{◌-◌}
-use borrow.Author.Rules.{rules}
-use Rattle.cases.proofs.Hex.{Decoding, decoding_start, decoding_length, decoding_end, decoding_next, hex_byte_lem}
+use Rattle.cases.proofs.Hex.{Decoding}
 use Rattle.cases.proofs.bytes.decode.Given as goal
 
 -- After n turns the first n bytes are decoded into `out`, i is 2 * n behind `from`, and the rest of `out` is as it was.

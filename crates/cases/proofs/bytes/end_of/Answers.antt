@@ -1,7 +1,4 @@
-use Prim.Native.Nat.{◌-◌}
-use lib.ListN.{length}
-use borrow.Author.Rules.{rules}
-use Rattle.cases.proofs.Words.{Ending, ending_start, ending_end, ending_space, ending_next}
+use Rattle.cases.proofs.Words.{ending_start, ending_end, ending_space, ending_next}
 use Rattle.cases.proofs.bytes.end_of.Goals as goal
 
 pub loop-i-init : goal.loop-i-init

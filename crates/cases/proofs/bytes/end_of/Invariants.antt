@@ -1,7 +1,6 @@
 use Prim.Native.Nat.{◌-◌}
 use lib.ListN.{length}
-use borrow.Author.Rules.{rules}
-use Rattle.cases.proofs.Words.{Ending, ending_start, ending_end, ending_space, ending_next}
+use Rattle.cases.proofs.Words.{Ending}
 use Rattle.cases.proofs.bytes.end_of.Given as goal
 
 -- There is no space from `from` to below i, so at every turn the word from i on ends where the whole word ends.

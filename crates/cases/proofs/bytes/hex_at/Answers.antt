@@ -1,7 +1,5 @@
-use Prim.Native.Nat.{◌-◌}
 use native.Mathlib.Omega.{arith}
-use borrow.Author.Rules.{rules}
-use Rattle.cases.proofs.Hex.{Hexing, hexing_start, hexing_end, hexing_low, hexing_short, hexing_other, hexing_next}
+use Rattle.cases.proofs.Hex.{hexing_start, hexing_end, hexing_low, hexing_short, hexing_other, hexing_next}
 use Rattle.cases.proofs.bytes.hex_at.Goals as goal
 
 pub loop-k-init : goal.loop-k-init

@@ -1,7 +1,5 @@
 use Prim.Native.Nat.{◌-◌}
-use native.Mathlib.Omega.{arith}
-use borrow.Author.Rules.{rules}
-use Rattle.cases.proofs.Hex.{Hexing, hexing_start, hexing_end, hexing_low, hexing_short, hexing_other, hexing_next}
+use Rattle.cases.proofs.Hex.{Hexing}
 use Rattle.cases.proofs.bytes.hex_at.Given as goal
 
 -- After k turns n is the number of the first k digits, below 16 to the k, and reading on at i gives what reading all eight digits gives.

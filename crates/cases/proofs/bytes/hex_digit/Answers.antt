@@ -1,6 +1,5 @@
 use native.Mathlib.Omega.{arith}
 use borrow.Author.Tests.{le-leb, lt-leb}
-use borrow.Author.Rules.{rules}
 use Rattle.cases.specs.Bytes.{hex_digit}
 use Rattle.cases.proofs.bytes.hex_digit.Goals as goal
 

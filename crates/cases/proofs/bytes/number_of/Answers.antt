@@ -1,6 +1,4 @@
-use Prim.Native.Nat.{◌-◌}
-use borrow.Author.Rules.{rules}
-use Rattle.cases.proofs.Words.{Summing, summing_start, summing_end, summing_other, summing_large, summing_next, number_none, number_some}
+use Rattle.cases.proofs.Words.{summing_start, summing_end, summing_other, summing_large, summing_next, number_none, number_some}
 use Rattle.cases.proofs.bytes.number_of.Goals as goal
 
 pub returns-then-to-from : goal.returns-then-to-from

@@ -1,6 +1,5 @@
 use Prim.Native.Nat.{◌-◌}
-use borrow.Author.Rules.{rules}
-use Rattle.cases.proofs.Words.{Summing, summing_start, summing_end, summing_other, summing_large, summing_next, number_none, number_some}
+use Rattle.cases.proofs.Words.{Summing}
 use Rattle.cases.proofs.bytes.number_of.Given as goal
 
 -- At every turn n is the number of the digits before i, and reading the rest of the word onto it gives what reading the whole word gives.

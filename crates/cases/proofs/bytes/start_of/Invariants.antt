@@ -1,8 +1,6 @@
-use mathlib.Core.Logic.{⊎_elim, inl, inr}
 use Prim.Native.Nat.{◌-◌}
 use lib.ListN.{length}
-use borrow.Author.Rules.{rules}
-use Rattle.cases.proofs.Words.{Starting, starting_start, starting_end, starting_found, starting_next}
+use Rattle.cases.proofs.Words.{Starting}
 use Rattle.cases.proofs.bytes.start_of.Given as goal
 
 -- At every turn word k of the line starts where word `k - spaces` of what is left from i on starts; `spaces` is at most k.

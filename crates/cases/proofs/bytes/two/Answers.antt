@@ -1,7 +1,6 @@
 use Prim.Native.Nat.{◌+◌}
 use native.Mathlib.Omega.{arith}
 use lib.ListN.{get_or-eq_default}
-use borrow.Author.Rules.{rules}
 use Rattle.cases.specs.Bytes.{two_at}
 use Rattle.cases.proofs.bytes.two.Goals as goal
 

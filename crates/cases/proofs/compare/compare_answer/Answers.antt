@@ -1,11 +1,10 @@
-use borrow.Author.Rules.{rules}
 use Rattle.prover.specs.Said.{said}
 use Rattle.cases.specs.Compared.{answer_differs}
 use Rattle.cases.proofs.Differing.{verdict_differs_lem, then_trays, differs}
 use Rattle.cases.proofs.compare.compare_answer.Goals as goal
 
 pub returns-in_default : goal.returns-in_default
-returns-in_default c = verdict_differs_lem _ _ _ _ c.in-Verdict.is c.compare_verdict-said.ensures (differs _ _ c.in_default.in_default-own.keys2)
+returns-in_default c = verdict_differs_lem _ _ _ _ c.in-Verdict.is c.compare_verdict-said.ensures (differs _ _ c.in_default.not-Nothing)
 
 pub returns-in-Refusal : goal.returns-in-Refusal
 unfolding answer_differs said

@@ -1,4 +1,3 @@
-use borrow.Author.Rules.{rules}
 use Rattle.cases.specs.Compared.{lent_trays}
 use Rattle.cases.proofs.Differing.{call_differs_lem}
 use Rattle.cases.proofs.compare.compare_call.Goals as goal

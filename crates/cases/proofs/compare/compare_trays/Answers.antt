@@ -1,4 +1,3 @@
-use borrow.Author.Rules.{rules}
 use Rattle.cases.specs.Compared.{trays_differ}
 use Rattle.cases.proofs.compare.compare_trays.Goals as goal
 

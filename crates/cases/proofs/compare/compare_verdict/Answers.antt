@@ -1,5 +1,4 @@
 use borrow.Author.Tests.{eq-eqb, ne_eqb}
-use borrow.Author.Rules.{rules}
 use Rattle.cases.specs.Compared.{verdict_differs}
 use Rattle.cases.proofs.compare.compare_verdict.Goals as goal
 

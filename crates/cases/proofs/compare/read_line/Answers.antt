@@ -1,5 +1,4 @@
 use borrow.Author.Tests.{le-leb, lt-leb}
-use borrow.Author.Rules.{rules}
 use Rattle.cases.specs.Compared.{expected_of}
 use Rattle.cases.proofs.compare.read_line.Goals as goal
 

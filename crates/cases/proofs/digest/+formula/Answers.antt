@@ -1,7 +1,5 @@
 use mathlib.Core.Path.{sym, ◌∙◌}
 use Rattle.cases.proofs.Formulas.{no_record, an_atom, no_first, one_operand, no_second, two_operands}
-use borrow.Author.Rules.{rules}
-use Prim.Native.Nat.{ℕ, ◌<◌}
 use Rattle.cases.proofs.digest.+formula.Goals as goal
 
 pub returns-then-f-ge-MOST_FORMULAS : goal.returns-then-f-ge-MOST_FORMULAS

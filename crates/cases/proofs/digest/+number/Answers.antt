@@ -1,6 +1,4 @@
 use Rattle.cases.proofs.Fed.{one_figure, more_figures}
-use borrow.Author.Rules.{rules}
-use Prim.Native.Nat.{ℕ, ◌<◌}
 use Rattle.cases.proofs.digest.+number.Goals as goal
 
 pub returns-then-n-lt10 : goal.returns-then-n-lt10

@@ -1,5 +1,4 @@
 use Rattle.cases.proofs.Fed.{fed_one}
-use borrow.Author.Rules.{rules}
 use Rattle.cases.proofs.digest.add.Goals as goal
 
 pub returns : goal.returns

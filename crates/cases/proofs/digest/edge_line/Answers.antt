@@ -1,5 +1,4 @@
 use Rattle.cases.proofs.Lines.{an_edge, no_edge}
-use borrow.Author.Rules.{rules}
 use Rattle.cases.proofs.digest.edge_line.Goals as goal
 
 pub returns-then-bits-eq1 : goal.returns-then-bits-eq1

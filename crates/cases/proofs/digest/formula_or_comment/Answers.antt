@@ -1,5 +1,4 @@
 use Rattle.cases.proofs.Formulas.{a_comment, no_comment}
-use borrow.Author.Rules.{rules}
 use Rattle.cases.proofs.digest.formula_or_comment.Goals as goal
 
 pub returns-then-f-eq65535 : goal.returns-then-f-eq65535

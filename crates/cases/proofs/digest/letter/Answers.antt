@@ -1,9 +1,10 @@
+use Rattle.std.proofs.Common.{◌≡◌, arith}
 use Rattle.cases.specs.Text.{letter_of}
 use Rattle.cases.proofs.Formulas.{no_letter}
 use Rattle.cases.proofs.digest.letter.Goals as goal
 
 pub returns-in-0-2 : goal.returns-in-0-2
-returns-in-0-2 c = no_letter _ c.in-0.in-0-own.rest
+returns-in-0-2 c = no_letter _ (omega arith)
 
 pub returns-in-1 : goal.returns-in-1
 unfolding letter_of
@@ -39,4 +40,4 @@ returns-in-8 c = rw c.in-8.is
 
 pub returns-in-0 : goal.returns-in-0
 unfolding letter_of
-returns-in-0 c = rw c.in-0.in-0-own.keys9
+returns-in-0 c = let e : c.args.kind ≡ 0 = omega arith in rw e

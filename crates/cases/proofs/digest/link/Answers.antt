@@ -1,5 +1,4 @@
 use Rattle.cases.proofs.Lines.{link_field}
-use borrow.Author.Rules.{rules}
 use Rattle.cases.proofs.digest.link.Goals as goal
 
 pub returns : goal.returns

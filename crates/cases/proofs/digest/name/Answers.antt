@@ -1,5 +1,4 @@
 use Rattle.cases.proofs.Formulas.{atom_name, letter_name}
-use borrow.Author.Rules.{rules}
 use Rattle.cases.proofs.digest.name.Goals as goal
 
 pub returns-then-kind-eq0 : goal.returns-then-kind-eq0

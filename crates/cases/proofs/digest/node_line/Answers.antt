@@ -1,5 +1,4 @@
 use Rattle.cases.proofs.Lines.{no_node, a_node}
-use borrow.Author.Rules.{rules}
 use Rattle.cases.proofs.digest.node_line.Goals as goal
 
 pub returns-then-nodes-at : goal.returns-then-nodes-at

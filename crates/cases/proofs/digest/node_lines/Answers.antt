@@ -1,8 +1,5 @@
-use Prim.Native.Nat.{◌-◌, min}
 use native.Mathlib.Omega.{arith}
-use Rattle.definition.specs.Limits.{most_identifiers}
-use Rattle.cases.proofs.Lines.{Left, node, start, next, nodes_end}
-use borrow.Author.Rules.{rules}
+use Rattle.cases.proofs.Lines.{start, next, nodes_end}
 use Rattle.cases.proofs.digest.node_lines.Goals as goal
 
 pub loop-i-init : goal.loop-i-init

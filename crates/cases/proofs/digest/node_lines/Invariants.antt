@@ -1,8 +1,6 @@
 use Prim.Native.Nat.{◌-◌, min}
-use native.Mathlib.Omega.{arith}
 use Rattle.definition.specs.Limits.{most_identifiers}
-use Rattle.cases.proofs.Lines.{Left, node, start, next, nodes_end}
-use borrow.Author.Rules.{rules}
+use Rattle.cases.proofs.Lines.{Left, node}
 use Rattle.cases.proofs.digest.node_lines.Given as goal
 
 -- At every turn, the lines of the nodes from i on, fed to the digest so far, give what the lines of all nodes give.

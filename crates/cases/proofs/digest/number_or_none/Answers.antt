@@ -1,5 +1,4 @@
 use Rattle.cases.proofs.Fed.{dash, some_number}
-use borrow.Author.Rules.{rules}
 use Rattle.cases.proofs.digest.number_or_none.Goals as goal
 
 pub returns-then-n-eq65535 : goal.returns-then-n-eq65535

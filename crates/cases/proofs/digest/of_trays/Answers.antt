@@ -1,9 +1,5 @@
-use Prim.Native.Nat.{◌-◌, min}
 use native.Mathlib.Omega.{arith}
-use lib.ListN.{length}
-use Rattle.definition.specs.Limits.{edge_tray_length}
-use Rattle.cases.proofs.Lines.{Left, world, start, next, worlds_end}
-use borrow.Author.Rules.{rules}
+use Rattle.cases.proofs.Lines.{start, next, worlds_end}
 use Rattle.cases.proofs.digest.of_trays.Goals as goal
 
 pub loop-u-init : goal.loop-u-init

@@ -1,9 +1,7 @@
 use Prim.Native.Nat.{◌-◌, min}
-use native.Mathlib.Omega.{arith}
 use lib.ListN.{length}
 use Rattle.definition.specs.Limits.{edge_tray_length}
-use Rattle.cases.proofs.Lines.{Left, world, start, next, worlds_end}
-use borrow.Author.Rules.{rules}
+use Rattle.cases.proofs.Lines.{Left, world}
 use Rattle.cases.proofs.digest.of_trays.Given as goal
 
 -- At every turn, the edge lines of the rows from u on, fed to the digest so far, give what those of all rows give after the node lines.

@@ -1,6 +1,4 @@
-use Prim.Native.Nat.{◌-◌}
-use Rattle.cases.proofs.Lines.{Bits, row_start, row_next, row_end}
-use borrow.Author.Rules.{rules}
+use Rattle.cases.proofs.Lines.{row_start, row_next, row_end}
 use Rattle.cases.proofs.digest.row.Goals as goal
 
 pub loop-v-init : goal.loop-v-init

@@ -1,6 +1,5 @@
 use Prim.Native.Nat.{◌-◌}
-use Rattle.cases.proofs.Lines.{Bits, row_start, row_next, row_end}
-use borrow.Author.Rules.{rules}
+use Rattle.cases.proofs.Lines.{Bits}
 use Rattle.cases.proofs.digest.row.Given as goal
 
 -- At every turn `rest` is the bits halved v times, and the edge lines from v on, fed to the digest so far, give what all 32 give.

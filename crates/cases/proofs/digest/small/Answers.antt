@@ -1,7 +1,6 @@
 use mathlib.Core.Path.{◌∙◌}
 use Rattle.cases.proofs.Lines.{byte_field}
-use borrow.Author.Rules.{rules}
 use Rattle.cases.proofs.digest.small.Goals as goal
 
 pub returns : goal.returns
-returns c = byte_field (c.wide.ensures.0 ∙ c.byte.ensures) c.number.ensures c.add.ensures
+returns c = byte_field (c.wide.ensures.value ∙ c.byte.ensures) c.number.ensures c.add.ensures

@@ -1,10 +1,5 @@
-use Prim.Native.Nat.{◌-◌, ◌+◌, ◌*◌}
-use lib.Dec.{eqb}
-use lib.ListN.{get_or}
-use borrow.Author.Rules.{rules}
-use Rattle.definition.specs.Limits.{record_length}
 use Rattle.cases.specs.Lent.{are_made}
-use Rattle.cases.proofs.Between.{Passing, between_start, between_end, between_miss, between_next, read_equal, read_unequal}
+use Rattle.cases.proofs.Between.{between_start, between_end, between_miss, between_next, read_equal, read_unequal}
 use Rattle.cases.proofs.lent.are_made.Goals as goal
 
 pub loop-i-init : goal.loop-i-init

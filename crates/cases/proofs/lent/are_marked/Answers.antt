@@ -1,10 +1,6 @@
 use mathlib.Core.Path.{sym, ◌∙◌}
-use Prim.Native.Nat.{◌-◌, ◌*◌}
-use borrow.Author.Rules.{rules}
-use borrow.Author.Tests.{not-true, not-false}
-use Rattle.definition.specs.Limits.{node_length}
-use Rattle.cases.specs.Lent.{is_marked, are_marked}
-use Rattle.cases.proofs.Between.{Passing, between_start, between_end, between_miss, between_next}
+use Rattle.cases.specs.Lent.{are_marked}
+use Rattle.cases.proofs.Between.{between_start, between_end, between_miss, between_next}
 use Rattle.cases.proofs.lent.are_marked.Goals as goal
 
 pub loop-i-init : goal.loop-i-init
@@ -12,10 +8,10 @@ loop-i-init c = between_start _ _ _
 
 pub returns-then-not-is_marked : goal.returns-then-not-is_marked
 unfolding are_marked
-returns-then-not-is_marked c = between_miss c.loop-i.invariant c.loop-i-test.true (sym c.is_marked.ensures ∙ not-true _ c.if-not-is_marked.true)
+returns-then-not-is_marked c = between_miss c.loop-i.invariant c.loop-i-test.true (sym c.is_marked.ensures ∙ c.if-not-is_marked.true)
 
 pub loop-i-preserved : goal.loop-i-preserved
-loop-i-preserved c = between_next c.loop-i.invariant c.loop-i-test.true (sym c.is_marked.ensures ∙ not-false _ c.if-not-is_marked.false)
+loop-i-preserved c = between_next c.loop-i.invariant c.loop-i-test.true (sym c.is_marked.ensures ∙ c.if-not-is_marked.false)
 
 pub returns : goal.returns
 unfolding are_marked

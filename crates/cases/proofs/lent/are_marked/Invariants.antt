@@ -1,10 +1,7 @@
-use mathlib.Core.Path.{sym, ◌∙◌}
 use Prim.Native.Nat.{◌-◌, ◌*◌}
-use borrow.Author.Rules.{rules}
-use borrow.Author.Tests.{not-true, not-false}
 use Rattle.definition.specs.Limits.{node_length}
-use Rattle.cases.specs.Lent.{is_marked, are_marked}
-use Rattle.cases.proofs.Between.{Passing, between_start, between_end, between_miss, between_next}
+use Rattle.cases.specs.Lent.{is_marked}
+use Rattle.cases.proofs.Between.{Passing}
 use Rattle.cases.proofs.lent.are_marked.Given as goal
 
 -- The nodes before i are marked; at every turn those from i on decide.

@@ -1,10 +1,6 @@
 use mathlib.Core.Path.{refl, sym, ◌∙◌}
-use Prim.Native.Nat.{◌-◌}
-use lib.Dec.{eqb}
-use lib.ListN.{length, get_or}
-use borrow.Author.Rules.{rules}
-use Rattle.cases.specs.Lent.{unused_row, edges_agree}
-use Rattle.cases.proofs.Between.{Passing, between_start, between_end, between_miss, between_next, read_equal, read_unequal}
+use Rattle.cases.specs.Lent.{edges_agree}
+use Rattle.cases.proofs.Between.{between_start, between_end, between_miss, between_next, read_equal, read_unequal}
 use Rattle.cases.proofs.lent.edges_agree.Goals as goal
 
 pub loop-u-init : goal.loop-u-init

@@ -1,10 +1,8 @@
-use mathlib.Core.Path.{refl, sym, ◌∙◌}
 use Prim.Native.Nat.{◌-◌}
 use lib.Dec.{eqb}
 use lib.ListN.{length, get_or}
-use borrow.Author.Rules.{rules}
-use Rattle.cases.specs.Lent.{unused_row, edges_agree}
-use Rattle.cases.proofs.Between.{Passing, between_start, between_end, between_miss, between_next, read_equal, read_unequal}
+use Rattle.cases.specs.Lent.{unused_row}
+use Rattle.cases.proofs.Between.{Passing}
 use Rattle.cases.proofs.lent.edges_agree.Given as goal
 
 -- The rows from `worlds` to below u are unused ones; at every turn those from u on decide.

@@ -1,4 +1,3 @@
-use borrow.Author.Rules.{rules}
 use Rattle.cases.specs.Lent.{is_ended}
 use Rattle.cases.proofs.lent.is_ended.Goals as goal
 

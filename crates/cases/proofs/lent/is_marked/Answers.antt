@@ -1,5 +1,4 @@
 use borrow.Author.Tests.{lt-ltb, le-ltb}
-use borrow.Author.Rules.{rules}
 use Rattle.cases.specs.Lent.{is_marked}
 use Rattle.cases.proofs.Between.{read_equal, read_unequal}
 use Rattle.cases.proofs.lent.is_marked.Goals as goal

@@ -1,5 +1,4 @@
 use borrow.Author.Tests.{le-leb, lt-leb}
-use borrow.Author.Rules.{rules}
 use Rattle.cases.specs.Lent.{nodes_agree}
 use Rattle.cases.proofs.lent.nodes_agree.Goals as goal
 

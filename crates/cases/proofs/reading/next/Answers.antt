@@ -1,5 +1,4 @@
 use borrow.Author.Tests.{lt-ltb, le-ltb}
-use borrow.Author.Rules.{rules}
 use Rattle.cases.specs.Tally.{one_more}
 use Rattle.cases.proofs.reading.next.Goals as goal
 

@@ -1,12 +1,11 @@
-use borrow.Author.Rules.{rules}
 use Rattle.cases.specs.File.{failed, ended, went}
 use Rattle.cases.proofs.reading.read_more.Goals as goal
 
-pub returns-then-got-lt0 : goal.returns-then-got-lt0
-returns-then-got-lt0 c = λ h. failed
+pub returns-in-Err : goal.returns-in-Err
+returns-in-Err g c = λ h. failed
 
-pub returns-then-got-eq0 : goal.returns-then-got-eq0
-returns-then-got-eq0 c = λ h. ended
+pub returns-in-Ok-eq0 : goal.returns-in-Ok-eq0
+returns-in-Ok-eq0 g c = λ h. ended
 
-pub returns : goal.returns
-returns c = λ h. went _ _ (c.feed_all.ensures h)
+pub returns-in-Ok : goal.returns-in-Ok
+returns-in-Ok g c = λ h. went _ _ (c.feed_all.ensures h)

@@ -1,7 +1,6 @@
-use borrow.Author.Rules.{rules}
 use Rattle.cases.specs.Tally.{one_failed}
 use Rattle.cases.proofs.reading.report.Goals as goal
 
 pub returns : goal.returns
 unfolding one_failed
-returns c = rw c.next.ensures
+returns g c = rw c.next.ensures
