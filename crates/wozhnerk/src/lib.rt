@@ -1,4 +1,4 @@
-// The functions for C and Rust, and the number in which they answer.
+// The functions for C and Rust, and the number in which they answer. `wozhnerk_c` exports them.
 #![tactic(auto)]
 
 ghost use Rattle.std.specs.Prelude.{◌≡◌, cond, ◌≤◌};
@@ -48,8 +48,7 @@ fn word(x: Answer) -> u64
 }
 
 // The call for C and Rust. The answer is the number itself, so nothing but the trays is written.
-#[unsafe(no_mangle)]
-pub extern "C" fn wozhnerk_prove(
+pub fn wozhnerk_prove(
     branch: &[u8],
     flags: u8,
     node_tray: &mut [u8],
@@ -63,8 +62,7 @@ pub extern "C" fn wozhnerk_prove(
 }
 
 // The typed call for C and Rust.
-#[unsafe(no_mangle)]
-pub extern "C" fn wozhnerk_prove_typed(
+pub fn wozhnerk_prove_typed(
     text: &[u8],
     flags: u8,
     text_tray: &mut [u8],
