@@ -19,12 +19,14 @@ use Rattle.definition.specs.Queue.{push_tree_node}
 use Rattle.definition.specs.Run.{rooted, branch_nodes, begun}
 use Rattle.definition.proofs.Tree.Nodes.{blank}
 use Rattle.definition.proofs.Run.Queueing.{length_rooted}
-use Rattle.formula.specs.Recorded.{Recorded, missing}
+use Rattle.formula.specs.declared.Formulas.{Formulas}
+use Rattle.formula.specs.Recorded.{HasRecords, missing}
 use Rattle.formula.proofs.Recorded.{recorded_count}
-use Rattle.tree.specs.declared.IssuedChain.{IssuedChain}
-use Rattle.tree.specs.Chain.{chain_of, ChainBelow, DrawnFrom}
-use Rattle.tree.specs.Lay.{place_code, lay, Lays, Held}
-use Rattle.tree.proofs.Chains.{spans_below, spans_chain}
+use Rattle.tree.specs.declared.Chain.{Chain}
+use Rattle.tree.specs.declared.ProofTree.{ProofTree}
+use Rattle.tree.specs.Chain.{chain_of, empty_chain, ChainBelow, Spans, DrawnFrom}
+use Rattle.tree.specs.Lay.{place_code, lay, Lays, Held, HasNodes}
+use Rattle.tree.proofs.Chains.{drawn_none, spans_below, spans_chain}
 use Rattle.tree.proofs.Nodes.{held_ok, held_long, held_as}
 use Rattle.branch.proofs.Growth.{Growth, growth_start, growth_as, growth_next, growth_end}
 
@@ -33,9 +35,10 @@ use Rattle.branch.proofs.Growth.{Growth, growth_start, growth_as, growth_next, g
 abbrev pub nodes_from : List Rec → ℕ → List Node
 nodes_from rs i = map (λ f. new_node nobody f 0) (marks_from i (drop i rs))
 
--- len nodes are in the table, and those of the records from number i on are left
-abbrev pub Beginning : List Rec → ℕ → List ℕ → ℕ → Type 0
-Beginning rs len a i = Growth (λ ns. Held ns len a) (branch_nodes rs) (nodes_from rs i)
+-- the table holds the nodes of the records before number i, which are the chain's; those of the records from number i on are left
+pub record Beginning (rs : List Rec) (made : Chain) (t : ProofTree) (i : ℕ) : Type 0 where
+  pub drawn : DrawnFrom 0 made t.len
+  pub grown : Growth (λ ns. HasNodes ns t) (branch_nodes rs) (nodes_from rs i)
 
 module _ (rs : List Rec) where
   from_first : branch_nodes rs ≡ nodes_from rs 0
@@ -59,21 +62,28 @@ module _ (rs : List Rec) where
   unfolding marks_from
   from_last i h = rw (drop_of_length-le rs {i = i} h) refl
 
-  pub beginning_start : {a : List ℕ} → Held [] 0 a → Beginning rs 0 a 0
-  beginning_start p = growth_as _ from_first (growth_start p)
+  pub beginning_start : {t : ProofTree} → HasNodes [] t → Beginning rs empty_chain t 0
+  beginning_start {t} p =
+      record {
+        drawn = λ small. let none : t.len ≡ 0 = sym (held_ok p small).0 in subst (Spans empty_chain 0) (sym none) (drawn_none 0 (omega arith));
+        grown = growth_as _ from_first (growth_start p);
+      }
 
-  module _ {count : ℕ} {t : List ℕ} (p : Recorded rs count t) (few : count ≤ most_formulas) {len : ℕ} {a : List ℕ} (i : ℕ) (g : Beginning rs len a i) where
-    module _ (m : ℕ) (h : i < count) (e : m ≡ (rec_at rs i).mark) where
-      -- record i read, and its node made if it is marked
-      pub beginning_next : (t : Bool) {k : ℕ} {b : List ℕ} → t ≡ eqb m 1 →
-          ((ns : List Node) → Held ns len a → Held (ns ++ cond t (new_node nobody i 0 ∷ []) []) k b) → Beginning rs k b (i + 1)
-      beginning_next true z f = growth_next (new_node nobody i 0) f (growth_as _ (from_marked i (omega (arith, recorded_count p few)) (sym e ∙ eqb-true m 1 (sym z))) g)
-      beginning_next false {k} {b} z f =
-          let r = growth_as _ (from_unmarked i (omega (arith, recorded_count p few)) (λ y. eqb-false m 1 (sym z) (e ∙ y))) g in
+  module _ {x : Formulas} (p : HasRecords rs x) (few : x.count ≤ most_formulas) {made : Chain} {t : ProofTree} (i : ℕ) (g : Beginning rs made t i) where
+    module _ (m : ℕ) (h : i < x.count) (e : m ≡ (rec_at rs i).mark) where
+      made_next : (b : Bool) {u : ProofTree} → b ≡ eqb m 1 → ((ns : List Node) → HasNodes ns t → HasNodes (ns ++ cond b (new_node nobody i 0 ∷ []) []) u) → Growth (λ ns. HasNodes ns u) (branch_nodes rs) (nodes_from rs (i + 1))
+      made_next true z f = growth_next (new_node nobody i 0) f (growth_as _ (from_marked i (omega (arith, recorded_count p few)) (sym e ∙ eqb-true m 1 (sym z))) g.grown)
+      made_next false z f =
+          let r = growth_as _ (from_unmarked i (omega (arith, recorded_count p few)) (λ y. eqb-false m 1 (sym z) (e ∙ y))) g.grown in
           record { made = r.made; has = held_as r.made (append-nil r.made) (f r.made r.has); same = r.same }
 
-    pub beginning_end : count ≤ i → Held (branch_nodes rs) len a
-    beginning_end h = growth_end (growth_as _ (from_last i (omega (arith, recorded_count p few))) g)
+      -- record i read, and its node made if it is marked
+      pub beginning_next : {b : Bool} {more : Chain} {u : ProofTree} → b ≡ eqb m 1 →
+          ((lo : ℕ) → DrawnFrom lo made t.len → DrawnFrom lo more u.len) × ((ns : List Node) → HasNodes ns t → HasNodes (ns ++ cond b (new_node nobody i 0 ∷ []) []) u) → Beginning rs more u (i + 1)
+      beginning_next {b} z f = record { drawn = f.0 0 g.drawn; grown = made_next b z f.1 }
+
+    pub beginning_end : x.count ≤ i → DrawnFrom 0 made t.len × HasNodes (branch_nodes rs) t
+    beginning_end h = (g.drawn, growth_end (growth_as _ (from_last i (omega (arith, recorded_count p few))) g.grown))
 
 -- ---- the root
 root_linked : (x : Node) (xs : List Node) → link (x ∷ xs) nobody Root 0 ≡ placed_below nobody Root x ∷ xs
@@ -86,17 +96,17 @@ root_chained [] = refl
 root_chained (x ∷ xs) = ap (λ (ms : List Node). link_chain ms 0 Middle (up_from (length xs) 1)) (root_linked x xs)
 
 -- the chain of all nodes, linked from its top on
-pub rooted_linked : (ns : List Node) (r : IssuedChain) {a b : List ℕ} → Held ns r.len a → DrawnFrom 0 r →
-    ((ms : List Node) (q : Place) → place_code q ≡ 0 → Held ms r.len a → (length ms ≤ most_identifiers → ChainBelow r.chain (length ms)) → Held (link_chain ms nobody q (chain_of r.chain)) r.len b) →
-    Held (rooted ns) r.len b
-rooted_linked ns r {a} {b} p d f = elim (dec_le r.len most_identifiers) [
+pub rooted_linked : (ns : List Node) (c : Chain) {t u : ProofTree} → DrawnFrom 0 c t.len × HasNodes ns t →
+    (u.len ≡ t.len) × ((ms : List Node) (q : Place) → place_code q ≡ 0 → HasNodes ms t → (length ms ≤ most_identifiers → ChainBelow c (length ms)) → HasNodes (link_chain ms nobody q (chain_of c)) u) →
+    HasNodes (rooted ns) u
+rooted_linked ns c {t} {u} (d, p) (same, f) = elim (dec_le t.len most_identifiers) [
   | yes h ↦
       let s = d h in
       let e = (held_ok p h).0 in
-      let n : r.chain.count ≡ length ns = omega (arith, s.ends, e) in
+      let n : c.count ≡ length ns = omega (arith, s.ends, e) in
       held_as (rooted ns) (ap (link_chain ns nobody Root) (spans_chain s ∙ ap (λ (k : ℕ). up_from k 0) n) ∙ root_chained ns)
       (f ns Root refl p (λ _. omega (arith, spans_below s, e)))
-  | no h ↦ held_long (rooted ns) p (omega (arith, h)) (omega (arith, length_rooted ns))
+  | no h ↦ subst (λ (k : ℕ). Held (rooted ns) k u.cells) (sym same) (held_long (rooted ns) p (omega (arith, h)) (omega (arith, length_rooted ns)))
 ]
 
 -- ---- the queue

@@ -1,78 +1,118 @@
 -- The call and the line, from what their parts give.
-use mathlib.Core.Path.{◌≡◌, refl, ap, ◌∙◌}
-use mathlib.Core.Bool.{Bool}
-use mathlib.Core.List.{List, ◌++◌}
-use Prim.Native.Nat.{ℕ, ◌≤◌, ◌<◌, min}
+use mathlib.Core.Path.{◌≡◌, refl, sym, ap, ◌∙◌}
+use mathlib.Core.List.{List}
+use Prim.Native.Nat.{ℕ, ◌<◌, min}
 use native.Mathlib.Omega.{arith}
-use lib.ListN.{length, take, drop}
-use lib.Seq.{take_at}
-use borrow.Author.Tests.{le-ltb}
+use borrow.Author.Tests.{le-ltb, lt-ltb}
+use Rattle.std.specs.Prelude.{Option, Some, None, Result, Ok, Err, ok_or, IsErrAnd}
+use Rattle.std.specs.Result.{result_ok, OkIff}
 use Rattle.definition.specs.Trays.{Trays}
+use Rattle.refusal.specs.Number.{number_of as number_of_reason}
+use Rattle.refusal.specs.declared.Refusal.{Refusal}
 use Rattle.prover.specs.Contract.{Contract}
 use Rattle.prover.specs.Said.{said}
-use Rattle.prover.specs.declared.Answer.{Answer}
-use Rattle.prover.specs.declared.Answer.TheVariants as A
+use Rattle.prover.specs.declared.Verdict.{Verdict}
 use Rattle.cases.specs.Bytes.{start_of, end_of, number_of, written, decoded}
-use Rattle.cases.specs.Compared.{branch_of, expected_of, trays_differ, verdict_differs, or_else, answer_differs, lent_trays, call_differs, difference_of}
+use Rattle.cases.specs.Compared.{Compared, branch_of, expected_of, trays_differ, verdict_differs, full_differs, or_else, answer_differs, lent_trays, call_differs, flagged_differs, difference_of}
 use Rattle.cases.specs.declared.compare.Difference.{Difference}
 use Rattle.cases.specs.declared.compare.Difference.TheVariants as D
 use Rattle.cases.specs.declared.compare.Expected.{Expected}
-use Rattle.cases.proofs.Hex.{length_decoded}
+use Rattle.cases.specs.declared.digest.Digest.{Digest}
 
--- a verdict, by the difference of its letter and counts
-pub verdict_differs_lem :
-    (e : Expected) (branch : List ℕ) (a : Answer) (t : Trays) {proved late : Bool} {i f w s : ℕ} {d r : Difference} →
-    a ≡ A.Verdict proved late i f w s →
-    d ≡ verdict_differs e proved late i w s →
-    r ≡ or_else d (trays_differ e branch i f w t) →
-    r ≡ answer_differs e branch (said a) t
-unfolding answer_differs said
-verdict_differs_lem e branch a t x y z = rw (x, ← y) z
+-- what a `?` hands on
+pub handed_on : (c : Compared) {d : Difference} → IsErrAnd c (λ e. e ≡ d) → c ≡ Err d
+handed_on (Ok u) h = absurd h
+handed_on (Err e) h = ap Err h
 
-pub then_trays : {d r rest : Difference} → d ≡ D.Nothing → r ≡ rest → r ≡ or_else d rest
-unfolding or_else
-then_trays e h = rw e h
+-- a number that is not there
+pub no_form : {n : Option ℕ} {r : Result ℕ Difference} {d : Difference} → r ≡ ok_or n D.Form → r ≡ Err d → (n ≡ None) × (d ≡ D.Form)
+no_form {n} e h = go n (sym e ∙ h) where
+  go : (m : Option ℕ) {d : Difference} → ok_or m D.Form ≡ Err d → (m ≡ None) × (d ≡ D.Form)
+  go None q = (refl, cc)
+  go (Some k) q = absurd (cc)
 
--- the arm of all differences but Nothing
-pub differs : (d rest : Difference) → (d ≡ D.Nothing → ⊥) → d ≡ or_else d rest
-unfolding or_else
-differs D.Nothing rest h = absurd (h refl)
-differs D.Form rest h = refl
-differs D.Verdict rest h = refl
-differs D.Identifiers rest h = refl
-differs D.Worlds rest h = refl
-differs D.Steps rest h = refl
-differs D.Digest rest h = refl
-differs D.Trays rest h = refl
+pub a_number : {n : Option ℕ} {r : Result ℕ Difference} {k : ℕ} → r ≡ ok_or n D.Form → r ≡ Ok k → n ≡ Some k
+a_number {n} e h = go n (sym e ∙ h) where
+  go : (m : Option ℕ) {k : ℕ} → ok_or m D.Form ≡ Ok k → m ≡ Some k
+  go None q = absurd (cc)
+  go (Some m) q = cc
+
+-- what is expected of a line without its words
+pub no_words :
+    (e : Expected) →
+    e.letter ≡ None →
+    e.identifiers ≡ None →
+    e.worlds ≡ None →
+    e.steps ≡ None →
+    e.digest ≡ None →
+    e ≡ record { letter = None; identifiers = None; worlds = None; steps = None; digest = None }
+no_words e = go e.letter e.identifiers e.worlds e.steps e.digest where
+  go :
+      (l i w s : Option ℕ) (d : Option Digest) →
+      l ≡ None →
+      i ≡ None →
+      w ≡ None →
+      s ≡ None →
+      d ≡ None →
+      let x : Expected = record { letter = l; identifiers = i; worlds = w; steps = s; digest = d } in
+      x ≡ record { letter = None; identifiers = None; worlds = None; steps = None; digest = None }
+  go l i w s d a b c f g = rw (a, b, c, f, g)
+
+module _ (e : Expected) (branch : List ℕ) (a : Result Verdict Refusal) (t : Trays) where
+  pub refusal_differs : (r : Refusal) {c : Compared} → a ≡ Err r → c ≡ full_differs e (number_of_reason r.reason) t → c ≡ answer_differs e branch (said a) t
+  unfolding answer_differs said
+  refusal_differs r x h = rw x h
+
+  module _ (v : Verdict) (x : a ≡ Ok v) {d : Compared} (y : d ≡ verdict_differs e v.proved v.late v.identifiers v.worlds v.steps) where
+    pub verdict_fails : {w : Difference} → d ≡ Err w → Err w ≡ answer_differs e branch (said a) t
+    unfolding answer_differs said or_else
+    verdict_fails h = rw (x, ← y, h)
+
+    pub trays_decide : {c : Compared} {u : Unit} → d ≡ Ok u → c ≡ trays_differ e branch v.identifiers v.formulas v.worlds t → c ≡ answer_differs e branch (said a) t
+    unfolding answer_differs said or_else
+    trays_decide h k = rw (x, ← y, h) k
 
 pub call_differs_lem :
-    (e : Expected) (branch : List ℕ) (flags : ℕ) (a : Answer) (left : Trays) {r : Difference} →
+    (e : Expected) (branch : List ℕ) (flags : ℕ) (a : Result Verdict Refusal) (left : Trays) {c : Compared} →
     Contract branch flags lent_trays (said a) left →
-    r ≡ answer_differs e branch (said a) left →
-    r ≡ call_differs e branch flags
+    c ≡ answer_differs e branch (said a) left →
+    c ≡ call_differs e branch flags
 unfolding call_differs
 call_differs_lem e branch flags a left k h = rw (← k.answers, ← k.leaves) h
 
-module _ (line before out : List ℕ) (flags from to n : ℕ) (e : Expected) where
-  pub line_differs :
-      {r : Difference} →
-      flags ≡ number_of line 0 →
-      flags ≤ 255 →
-      from ≡ start_of line 1 →
-      to ≡ end_of line from →
-      length before ≡ 2048 →
-      n ≡ min (length before) (written line from to) →
-      out ≡ decoded line from n ++ drop n before →
-      e ≡ expected_of line →
-      r ≡ call_differs e (take n out) flags →
-      r ≡ difference_of line
-  unfolding difference_of branch_of
-  line_differs f few s t l k o x h =
-      let b : take n out ≡ decoded line from n = ap (take n) o ∙ take_at (decoded line from n) (drop n before) n (length_decoded line from n) in
-      let m : n ≡ min 2048 (written line from (end_of line from)) = k ∙ rw (l, t) in
-      let d : take n out ≡ decoded line from (min 2048 (written line from (end_of line from))) = b ∙ ap (decoded line from) m in
-      rw (← f, le-ltb _ _ few, ← s, ← d, ← x) h
+-- ---- the flags of a line
+-- a number that is no byte, and one that is
+pub no_byte : {E : Type 0} (r : Result ℕ E) {n : ℕ} {o : Option ℕ} → OkIff r (n < 256) n → o ≡ result_ok r → o ≡ None → 255 < n
+no_byte r h e q = go r h (sym e ∙ q) where
+  go : {E : Type 0} (s : Result ℕ E) {n : ℕ} → OkIff s (n < 256) n → result_ok s ≡ None → 255 < n
+  go (Ok k) f p = absurd (cc)
+  go (Err x) f p = omega (arith, f)
 
--- no more bytes are written than there is room for
-pub too_many : {a b n : ℕ} (w : ℕ) → a ≡ b → n ≡ min b w → a < n → ⊥
-too_many w e m h = omega arith
+pub a_byte : {E : Type 0} (r : Result ℕ E) {n k : ℕ} {o : Option ℕ} → OkIff r (n < 256) n → o ≡ result_ok r → o ≡ Some k → (n < 256) × (n ≡ k)
+a_byte r h e q = go r h (sym e ∙ q) where
+  go : {E : Type 0} (s : Result ℕ E) {n k : ℕ} → OkIff s (n < 256) n → result_ok s ≡ Some k → (n < 256) × (n ≡ k)
+  go (Ok m) {k = k} f p = let z : m ≡ k = cc in (f.0, sym f.1 ∙ z)
+  go (Err x) f p = absurd (cc)
+
+module _ (line : List ℕ) where
+  pub no_flags : number_of line 0 ≡ None → Err D.Form ≡ difference_of line
+  unfolding difference_of flagged_differs
+  no_flags h = rw h
+
+  module _ {n : ℕ} (h : number_of line 0 ≡ Some n) where
+    pub large_flags : 255 < n → Err D.Form ≡ difference_of line
+    unfolding difference_of flagged_differs
+    large_flags l = rw (h, lt-ltb 255 n l)
+
+    pub line_differs :
+        {k from to : ℕ} {bytes items : List ℕ} {e : Expected} {c : Compared} →
+        (n < 256) × (n ≡ k) →
+        from ≡ start_of line 1 →
+        to ≡ end_of line from →
+        items ≡ decoded line from (min 2048 (written line from to)) →
+        bytes ≡ items →
+        e ≡ expected_of line →
+        c ≡ call_differs e bytes k →
+        c ≡ difference_of line
+    unfolding difference_of flagged_differs branch_of
+    line_differs f s t b i x q = rw (h, le-ltb 255 n (omega (arith, f.0)), ← x, ← s, ← t, ← b, ← i, f.1) q

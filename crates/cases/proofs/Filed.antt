@@ -6,34 +6,42 @@ use Prim.Native.Nat.{ℕ, ◌+◌, ◌≤◌, ◌<◌}
 use native.Mathlib.Numerals.{add-one}
 use native.Mathlib.Omega.{arith}
 use lib.Dec.{eqb, ltb}
-use lib.ListN.{length, take, set, get_or, length-set}
-use lib.Seq.{length-take-le, take-suc, take-suc-set, take_all}
+use lib.ListN.{length, take, get_or}
+use lib.Seq.{take-suc}
 use borrow.Author.Tests.{lt-ltb, le-ltb, eq-eqb, ne_eqb}
+use Rattle.std.specs.Prelude.{Option, Some, Result, Ok, Err, IsOk, IsErr, OnOk, OnErr}
+use Rattle.std.specs.declared.io.Error.{Error}
 use Rattle.cases.specs.Tally.{one_failed, finished, Since}
-use Rattle.cases.specs.File.{Reading, taken, all_taken, file_start, tally_of, FileRead, whole, broken, reading_of, Takes, Went, went}
-use Rattle.cases.specs.declared.reading.More.{More}
-use Rattle.cases.specs.declared.reading.More.TheVariants as M
-use Rattle.cases.specs.declared.reading.Progress.{Progress}
+use Rattle.cases.specs.File.{Reading, taken, all_taken, file_start, tally_of, FileRead, whole, broken, reading_of, longest_line, Takes, Went, failed, went}
 use Rattle.cases.specs.declared.reading.Tally.{Tally}
 use Rattle.cases.proofs.Tallied.{since_same, since_then, since_finished, since_end, since_report}
 
 -- ---- one byte
-module _ (line : List ℕ) (p : Progress) (b : ℕ) (fit : p.len ≤ length line) where
-  pub takes_newline : {after : Tally} → b ≡ 10 → after ≡ finished (take p.len line) p.tally → Takes line p (b ∷ []) line (record { len = 0; tally = after })
+module _ (line after : List ℕ) (t r : Tally) (b : ℕ) where
+  pub takes_newline : b ≡ 10 → after ≡ [] → r ≡ finished line t → Takes line t (b ∷ []) after r
   unfolding all_taken taken
-  takes_newline e h = record { is = rw (eq-eqb b 10 e, h); fits = omega arith }
+  takes_newline e h k = record { is = rw (eq-eqb b 10 e, h, k) }
 
-  pub takes_byte : (b ≡ 10 → ⊥) → p.len < length line → Takes line p (b ∷ []) (set line p.len b) (record { len = p.len + 1; tally = p.tally })
+  pub takes_byte : (b ≡ 10 → ⊥) → length line < 4096 → after ≡ line ++ (b ∷ []) → r ≡ t → Takes line t (b ∷ []) after r
   unfolding all_taken taken
-  takes_byte e h =
-      record {
-        is = rw (ne_eqb b 10 e, length-take-le p.len line fit, lt-ltb p.len (length line) h, add-one, take-suc-set line p.len b h);
-        fits = rw length-set (omega arith);
-      }
+  takes_byte e h k q = record { is = rw (ne_eqb b 10 e, lt-ltb (length line) 4096 h, k, q) }
 
-  pub takes_full : (b ≡ 10 → ⊥) → length line ≤ p.len → Takes line p (b ∷ []) line p
+  pub takes_full : (b ≡ 10 → ⊥) → 4096 ≤ length line → after ≡ line → r ≡ t → Takes line t (b ∷ []) after r
   unfolding all_taken taken
-  takes_full e h = record { is = rw (ne_eqb b 10 e, length-take-le p.len line fit, le-ltb p.len (length line) h); fits = fit }
+  takes_full e h k q = record { is = rw (ne_eqb b 10 e, le-ltb (length line) 4096 h, k, q) }
+
+-- a byte is put at the end of the line, if there is room
+pub takes_put :
+    {E X : Type 0} (c : Result Unit E) {line after : List ℕ} {t : Tally} {b : ℕ} →
+    (b ≡ 10 → ⊥) →
+    (IsOk c → length line < 4096) →
+    OnOk c (after ≡ line ++ (b ∷ [])) →
+    OnErr c X →
+    (X → after ≡ line) →
+    OnErr c (length line ≡ 4096) →
+    Takes line t (b ∷ []) after t
+takes_put (Ok u) n room put kept same full = takes_byte _ _ _ _ _ n (room refl) put refl
+takes_put (Err e) n room put kept same full = takes_full _ _ _ _ _ n (omega (arith, full)) (same kept) refl
 
 -- ---- a part of the file
 all_taken_append : (room : ℕ) (s : Reading) (bs cs : List ℕ) → all_taken room s (bs ++ cs) ≡ all_taken room (all_taken room s bs) cs
@@ -41,70 +49,55 @@ unfolding all_taken
 all_taken_append room s [] cs = refl
 all_taken_append room s (b ∷ bs) cs = all_taken_append room (taken room s b) bs cs
 
-pub takes_none : (line : List ℕ) (p : Progress) → p.len ≤ length line → Takes line p [] line p
+pub takes_none : (line : List ℕ) (t : Tally) → Takes line t [] line t
 unfolding all_taken
-takes_none line p h = record { is = refl; fits = h }
+takes_none line t = record { is = refl }
 
-pub takes_then :
-    (line : List ℕ) (p : Progress) (bs line' : List ℕ) (q : Progress) (cs line'' : List ℕ) (r : Progress) →
-    length line' ≡ length line →
-    Takes line p bs line' q →
-    Takes line' q cs line'' r →
-    Takes line p (bs ++ cs) line'' r
-takes_then line p bs line' q cs line'' r e h k =
-    record {
-      is = k.is ∙ rw (e, h.is) (sym (all_taken_append (length line) (reading_of line p) bs cs));
-      fits = k.fits;
-    }
+takes_then : {line line' line'' bs cs : List ℕ} {t s r : Tally} → Takes line t bs line' s → Takes line' s cs line'' r → Takes line t (bs ++ cs) line'' r
+takes_then {line} {bs = bs} {cs} {t} h k = record { is = k.is ∙ rw h.is (sym (all_taken_append longest_line (reading_of line t) bs cs)) }
 
-module _ (line : List ℕ) (p : Progress) (part line' : List ℕ) (q : Progress) (i : ℕ) where
-  pub takes_next :
-      (line'' : List ℕ) (r : Progress) →
-      i < length part →
-      length line' ≡ length line →
-      (p.len ≤ length line → Takes line p (take i part) line' q) →
-      (q.len ≤ length line' → Takes line' q (get_or part i 0 ∷ []) line'' r) →
-      p.len ≤ length line →
-      Takes line p (take (i + 1) part) line'' r
-  takes_next line'' r l e h k f =
-      let z : take (i + 1) part ≡ take i part ++ (get_or part i 0 ∷ []) = rw (add-one, take-suc part i 0 l) in
-      rw z (takes_then line p (take i part) line' q (get_or part i 0 ∷ []) line'' r e (h f) (k (h f).fits))
+pub takes_next :
+    {line line' line'' : List ℕ} {t s r : Tally} (part : List ℕ) (i : ℕ) {b : ℕ} →
+    i < length part →
+    b ≡ get_or part i 0 →
+    Takes line t (take i part) line' s →
+    Takes line' s (b ∷ []) line'' r →
+    Takes line t (take (i + 1) part) line'' r
+takes_next part i {b} l e h k =
+    let z : take (i + 1) part ≡ take i part ++ (b ∷ []) = rw (add-one, take-suc part i 0 l, e) in
+    rw z (takes_then h k)
 
-  pub takes_end : length part ≤ i → (p.len ≤ length line → Takes line p (take i part) line' q) → p.len ≤ length line → Takes line p part line' q
-  takes_end l h f = rw (take_all i part l) at (h f)
+pub went_not : (line : List ℕ) (t : Tally) (after : List ℕ) (m : Result (Option Tally) Error) → IsErr m → Went line t after m
+went_not line t after (Ok x) h = absurd (cc)
+went_not line t after (Err e) h = failed e
 
 -- ---- the file
--- some bytes have brought the empty buffer to this one
-pub record Begun (t : Tally) (line : List ℕ) (p : Progress) : Type 0 where
-  pub room : 4096 ≡ length line
-  pub fits : p.len ≤ length line
+-- some bytes have brought the empty line to this one
+pub record Begun (t : Tally) (line : List ℕ) (r : Tally) : Type 0 where
   pub bytes : List ℕ
-  pub is : reading_of line p ≡ all_taken 4096 (record { held = []; tally = file_start t }) bytes
+  pub is : reading_of line r ≡ all_taken longest_line (record { held = []; tally = file_start t }) bytes
 
-pub begun_start : (t : Tally) (line : List ℕ) → 4096 ≡ length line → Begun t line (record { len = 0; tally = file_start t })
+pub begun_start : (t : Tally) {r : Tally} {line : List ℕ} → line ≡ [] → r ≡ file_start t → Begun t line r
 unfolding all_taken
-begun_start t line h = record { room = h; fits = omega arith; bytes = []; is = refl }
+begun_start t h e = record { bytes = []; is = rw (h, e) }
 
 pub begun_next :
-    (t : Tally) (line : List ℕ) (p : Progress) (after : List ℕ) (q : Progress) {m : More} →
-    length after ≡ length line →
-    Begun t line p →
-    (p.len ≤ length line → Went line p after m) →
-    m ≡ M.Read q →
-    Begun t after q
-begun_next t line p after q e h w r = go (rw r at (w h.fits)) where
-  go : Went line p after (M.Read q) → Begun t after q
+    (t : Tally) (line after : List ℕ) (s r : Tally) {m : Result (Option Tally) Error} →
+    Begun t line s →
+    Went line s after m →
+    m ≡ Ok (Some r) →
+    Begun t after r
+begun_next t line after s r h w e = go (rw e at w) where
+  go : Went line s after (Ok (Some r)) → Begun t after r
   go (went bytes x k) =
       record {
-        room = omega (arith, h.room, e);
-        fits = k.fits;
         bytes = h.bytes ++ bytes;
-        is = k.is ∙ rw (← h.room, h.is) (sym (all_taken_append 4096 (record { held = []; tally = file_start t }) h.bytes bytes));
+        is = k.is ∙ rw h.is (sym (all_taken_append longest_line (record { held = []; tally = file_start t }) h.bytes bytes));
       }
 
-begun_tally : (t : Tally) (line : List ℕ) (p : Progress) (h : Begun (file_start t) line p) → p.tally ≡ tally_of t h.bytes
+begun_tally : (t : Tally) (line : List ℕ) (r : Tally) (h : Begun t line r) → r ≡ tally_of t h.bytes
 unfolding tally_of
-begun_tally t line p h = ap (λ (s : Reading). s.tally) h.is
+begun_tally t line r h = ap (λ (s : Reading). s.tally) h.is
 
 -- ---- cases and failures do not fall
 since_taken : (room : ℕ) (s : Reading) (b : ℕ) → Since 0 s.tally (taken room s b).tally
@@ -128,8 +121,8 @@ unfolding tally_of
 since_file t r (whole bytes e) = rw e (since_end t (since_all 4096 (record { held = []; tally = file_start t }) bytes))
 since_file t r (broken bytes e) = since_report t (since_all 4096 (record { held = []; tally = file_start t }) bytes) e
 
-pub file_whole : (t : Tally) (line : List ℕ) (p : Progress) → Begun (file_start t) line p → FileRead t p.tally × Since 1 t p.tally
-file_whole t line p h = let f : FileRead t p.tally = whole h.bytes (begun_tally t line p h) in (f, since_file t p.tally f)
+pub file_whole : (t : Tally) (line : List ℕ) {r : Tally} → Begun t line r → FileRead t r × Since 1 t r
+file_whole t line {r} h = let f : FileRead t r = whole h.bytes (begun_tally t line r h) in (f, since_file t r f)
 
-pub file_broken : (t : Tally) (line : List ℕ) (p : Progress) {r : Tally} → Begun (file_start t) line p → r ≡ one_failed p.tally → FileRead t r × Since 1 t r
-file_broken t line p {r} h e = let f : FileRead t r = broken h.bytes (e ∙ ap one_failed (begun_tally t line p h)) in (f, since_file t r f)
+pub file_broken : (t : Tally) (line : List ℕ) (s : Tally) {r : Tally} → Begun t line s → r ≡ one_failed s → FileRead t r × Since 1 t r
+file_broken t line s {r} h e = let f : FileRead t r = broken h.bytes (e ∙ ap one_failed (begun_tally t line s h)) in (f, since_file t r f)

@@ -1,11 +1,10 @@
 -- A formula's text by the links of its record.
 use Prim.Native.Nat.{ℕ, zero, suc, ◌≤◌, ◌<◌}
-use mathlib.Core.Path.{◌≡◌, refl, sym, ap, ◌∙◌}
+use mathlib.Core.Path.{◌≡◌, refl, ap, ◌∙◌}
 use mathlib.Core.Bool.{Bool, true, false, cond}
 use mathlib.Core.List.{List, [], ◌∷◌, ◌++◌, append-nil}
 use native.Mathlib.Omega.{arith}
 use lib.Dec.{eqb, leb, ltb}
-use lib.ListN.{get_or-eq_default}
 use borrow.Author.Tests.{lt-ltb, le-ltb, ltb-true, eq-eqb, ne_eqb, le-leb, lt-leb}
 use Rattle.definition.specs.Limits.{most_formulas}
 use Rattle.slices.specs.Text.{decimal_of}
@@ -14,23 +13,6 @@ use Rattle.cases.specs.Text.{Fed, letter_of, has_one, name_of, LinksAt, linked, 
 use Rattle.cases.proofs.Fed.{and_then}
 
 -- ---- kinds
--- none of the kinds 0 to 8
-pub no_letter : (kind : ℕ) → 9 ≤ kind → 63 ≡ letter_of kind
-unfolding letter_of
-no_letter kind above = sym (get_or-eq_default (63 ∷ 78 ∷ 67 ∷ 68 ∷ 73 ∷ 66 ∷ 83 ∷ 80 ∷ 76 ∷ []) 63 {n = kind} above)
-
-pub in_two : (kind : ℕ) → 2 ≤ kind → kind < 7 → false ≡ has_one kind
-unfolding has_one
-in_two kind h g = rw (le-ltb kind 2 h, le-ltb 6 kind (omega arith))
-
-pub below_two : (kind : ℕ) → kind < 2 → true ≡ has_one kind
-unfolding has_one
-below_two kind h = rw (lt-ltb kind 2 h)
-
-pub above_two : (kind : ℕ) → 7 ≤ kind → true ≡ has_one kind
-unfolding has_one
-above_two kind h = rw (le-ltb kind 2 (omega arith), lt-ltb 6 kind (omega arith))
-
 pub atom_name : {d a r : Digest} (kind left : ℕ) → kind ≡ 0 → Fed d (65 ∷ []) a → Fed a (decimal_of left) r → Fed d (name_of kind left) r
 unfolding name_of
 atom_name kind left z e h = rw (eq-eqb kind 0 z) (and_then e h)

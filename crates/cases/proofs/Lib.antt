@@ -1,4 +1,3 @@
-pub mod Between
 pub mod Words
 pub mod Hex
 pub mod Fed

@@ -1,10 +1,10 @@
 -- Words of a line, and lines one after the other.
 use Prim.Native.Nat.{ℕ, suc, ◌+◌, ◌*◌, ◌-◌, ◌/◌, ◌%◌, ◌^◌, ◌≤◌, ◌<◌, min}
-use mathlib.Core.Path.{◌≡◌, refl, sym, ap, subst, ◌∙◌}
+use mathlib.Core.Path.{◌≡◌, refl, sym, ap, ◌∙◌}
 use mathlib.Core.List.{List, [], ◌∷◌, ◌++◌}
 use native.Mathlib.Omega.{arith}
-use native.Mathlib.Nat.{pow-suc, div-div-eq-div-mul, div-one, sub-zero}
-use lib.ListN.{length, get_or}
+use lib.ListN.{length, take, get_or}
+use lib.Seq.{get_or-take, length-take-le}
 use borrow.Author.Tests.{le-leb, lt-leb, eq-eqb, ne_eqb}
 use Rattle.definition.specs.Limits.{most_identifiers, node_length, edge_tray_length}
 use Rattle.definition.specs.Lists.{up_from, below, concat_map}
@@ -49,9 +49,6 @@ pub record Left (line : ℕ → List ℕ) (n : ℕ) (d text : Digest) (i : ℕ) 
   pub gives : fed text (concat_map line (up_from (n - i) i)) ≡ fed d (concat_map line (below n))
 
 module _ (line : ℕ → List ℕ) (n : ℕ) (d : Digest) where
-  pub start : Left line n d d 0
-  start = record { gives = ap (λ (k : ℕ). fed d (concat_map line (up_from k 0))) (sub-zero n) }
-
   pub next : {text more : Digest} (i : ℕ) → i < n → Fed text (line i) more → Left line n d text i → Left line n d more (i + 1)
   next {text} {more} i h e l =
       let less : n - i ≡ suc (n - (i + 1)) = omega arith in
@@ -69,28 +66,12 @@ module _ (line : ℕ → List ℕ) (n : ℕ) (d : Digest) where
       record { is = (fed_none text).is ∙ sym (ap (λ (k : ℕ). fed text (concat_map line (up_from k i))) done) ∙ l.gives }
 
 -- ---- the edges from one world
-halved : (bits rest v : ℕ) → rest ≡ bits / 2 ^ v → rest / 2 ≡ bits / 2 ^ (v + 1)
-halved bits rest v e =
-    let later : suc v ≡ v + 1 = omega arith in
-    ap (λ (x : ℕ). x / 2) e ∙ div-div-eq-div-mul bits (2 ^ v) 2 ∙ ap (λ (x : ℕ). bits / x) (sym (pow-suc 2 v)) ∙ ap (λ (x : ℕ). bits / 2 ^ x) later
-
-abbrev edge : ℕ → ℕ → ℕ → List ℕ
+abbrev pub edge : ℕ → ℕ → ℕ → List ℕ
 edge u bits v = edge_line u v (bits / 2 ^ v)
 
-pub record Bits (u bits : ℕ) (d text : Digest) (rest v : ℕ) : Type 0 where
-  pub halves : rest ≡ bits / 2 ^ v
-  pub lines : Left (edge u bits) 32 d text v
-
-pub row_start : (u bits : ℕ) (d : Digest) → Bits u bits d d bits 0
-row_start u bits d = record { halves = sym (div-one bits); lines = start (edge u bits) 32 d }
-
-pub row_next : {u bits rest v : ℕ} {d text more : Digest} → Bits u bits d text rest v → v < 32 → Fed text (edge_line u v rest) more → Bits u bits d more (rest / 2) (v + 1)
-row_next {u} {bits} {rest} {v} {d} {text} {more} b h e =
-    record { halves = halved bits rest v b.halves; lines = next (edge u bits) 32 d v h (subst (λ (x : ℕ). Fed text (edge_line u v x) more) b.halves e) b.lines }
-
-pub row_end : {u bits rest v : ℕ} {d text : Digest} → 32 ≤ v → Bits u bits d text rest v → Fed d (edges_from u bits) text
+pub row_end : (u bits v : ℕ) {d text : Digest} → 32 ≤ v → Left (edge u bits) 32 d text v → Fed d (edges_from u bits) text
 unfolding edges_from
-row_end {u} {bits} {rest} {v} {d} h b = end (edge u bits) 32 d v h b.lines
+row_end u bits v {d} h l = end (edge u bits) 32 d v h l
 
 -- ---- the nodes, and the edges of all worlds
 abbrev pub node : List ℕ → List ℕ → ℕ → List ℕ
@@ -103,6 +84,19 @@ pub nodes_end : (nodes formulas : List ℕ) (identifiers i : ℕ) {text : Digest
     → Left (node nodes formulas) (min identifiers most_identifiers) (record { first = 0; second = 0 }) text i → text ≡ digest_of (node_lines nodes formulas identifiers)
 unfolding digest_of node_lines
 nodes_end nodes formulas identifiers i h l = (end (node nodes formulas) (min identifiers most_identifiers) _ i h l).is
+
+-- the rows are those of the tray
+module _ (edges : List ℕ) {n : ℕ} (e : n ≡ min edge_tray_length (length edges)) (u : ℕ) where
+  rows : length (take n edges) ≡ min edge_tray_length (length edges)
+  rows = length-take-le n edges (omega arith) ∙ e
+
+  pub rows_next : {d text more : Digest} → u < length (take n edges) → Fed text (edges_from u (get_or (take n edges) u 0)) more → Left (world edges) (min edge_tray_length (length edges)) d text u → Left (world edges) (min edge_tray_length (length edges)) d more (u + 1)
+  rows_next {d} h f l =
+      let k : u < min edge_tray_length (length edges) = omega (arith, rows) in
+      next (world edges) (min edge_tray_length (length edges)) d u k (rw (get_or-take n edges u 0 (omega arith)) at f) l
+
+  pub rows_end : length (take n edges) ≤ u → min edge_tray_length (length edges) ≤ u
+  rows_end h = omega (arith, rows)
 
 pub worlds_end : (nodes formulas edges : List ℕ) (identifiers u : ℕ) {d text : Digest} → d ≡ digest_of (node_lines nodes formulas identifiers)
     → min edge_tray_length (length edges) ≤ u → Left (world edges) (min edge_tray_length (length edges)) d text u → text ≡ digest_of (text_of nodes formulas edges identifiers)

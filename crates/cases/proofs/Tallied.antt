@@ -8,12 +8,11 @@ use native.Mathlib.Omega.{arith}
 use lib.Dec.{eqb, ltb}
 use lib.ListN.{length, get_or}
 use borrow.Author.Tests.{ltb-false, eq-eqb, ne_eqb}
+use Rattle.std.specs.Prelude.{Ok, Err}
 use Rattle.definition.specs.Lists.{empty}
-use Rattle.cases.specs.Compared.{difference_of}
+use Rattle.cases.specs.Compared.{Compared, difference_of}
 use Rattle.cases.specs.Tally.{one_more, one_failed, one_line, one_case, judged, finished, Since}
 use Rattle.cases.specs.File.{file_start}
-use Rattle.cases.specs.declared.compare.Difference.{Difference}
-use Rattle.cases.specs.declared.compare.Difference.TheVariants as D
 use Rattle.cases.specs.declared.reading.Tally.{Tally}
 
 -- ---- a whole line
@@ -25,25 +24,18 @@ empty_some : (line : List ℕ) → (length line ≡ 0 → ⊥) → empty line �
 empty_some [] h = absurd (h refl)
 empty_some (b ∷ bs) h = refl
 
-module _ (line : List ℕ) (t : Tally) {n : ℕ} (e : n ≡ one_more t.line) where
-  pub finished_empty : length line ≡ 0 → record { line = n; cases = t.cases; failed = t.failed } ≡ finished line t
-  unfolding finished one_line
-  finished_empty h = rw (empty_none line h, e)
+module _ (line : List ℕ) (t : Tally) where
+  pub finished_empty : length line ≡ 0 → one_line t ≡ finished line t
+  unfolding finished
+  finished_empty h = rw (empty_none line h)
 
-  pub finished_comment : (length line ≡ 0 → ⊥) → get_or line 0 0 ≡ 35 → record { line = n; cases = t.cases; failed = t.failed } ≡ finished line t
-  unfolding finished one_line
-  finished_comment h q = rw (empty_some line h, eq-eqb _ _ q, e)
+  pub finished_comment : (length line ≡ 0 → ⊥) → get_or line 0 0 ≡ 35 → one_line t ≡ finished line t
+  unfolding finished
+  finished_comment h q = rw (empty_some line h, eq-eqb _ _ q)
 
-  pub finished_case :
-      {k : ℕ} {d : Difference} {r : Tally} →
-      (length line ≡ 0 → ⊥) →
-      (get_or line 0 0 ≡ 35 → ⊥) →
-      k ≡ one_more t.cases →
-      d ≡ difference_of line →
-      r ≡ judged d (record { line = n; cases = k; failed = t.failed }) →
-      r ≡ finished line t
-  unfolding finished one_line one_case
-  finished_case h q k d j = rw (empty_some line h, ne_eqb _ _ q, ← e, ← k, ← d) j
+  pub finished_case : (length line ≡ 0 → ⊥) → (get_or line 0 0 ≡ 35 → ⊥) → judged (difference_of line) (one_case (one_line t)) ≡ finished line t
+  unfolding finished
+  finished_case h q = rw (empty_some line h, ne_eqb _ _ q)
 
 -- ---- cases and failures do not fall
 one_more_lem : (n : ℕ) → (one_more n ≡ n + 1) ⊎ ((one_more n ≡ n) × (1000000000 ≤ n))
@@ -64,16 +56,10 @@ since_then p q =
       rise = λ h. omega (arith, q.rise h, p.rise (omega (arith, q.cases)));
     }
 
-failed_or_same : (d : Difference) (t : Tally) → (judged d t ≡ t) ⊎ (judged d t ≡ one_failed t)
+failed_or_same : (c : Compared) (t : Tally) → (judged c t ≡ t) ⊎ (judged c t ≡ one_failed t)
 unfolding judged
-failed_or_same D.Nothing t = inl refl
-failed_or_same D.Form t = inr refl
-failed_or_same D.Verdict t = inr refl
-failed_or_same D.Identifiers t = inr refl
-failed_or_same D.Worlds t = inr refl
-failed_or_same D.Steps t = inr refl
-failed_or_same D.Digest t = inr refl
-failed_or_same D.Trays t = inr refl
+failed_or_same (Ok u) t = inl refl
+failed_or_same (Err d) t = inr refl
 
 since_case : (t : Tally) → Since 0 t (one_case (one_line t))
 unfolding one_case one_line
@@ -94,7 +80,7 @@ since_failed t = go (one_more_lem t.cases) (one_more_lem t.failed) where
   go (inr h) (inl k) = record { cases = omega (arith, h.0); failures = omega (arith, k); rise = λ l. omega (arith, h.0, h.1, l) }
   go (inr h) (inr k) = record { cases = omega (arith, h.0); failures = omega (arith, k.0); rise = λ l. omega (arith, h.0, k.0) }
 
-since_judged : (t : Tally) (d : Difference) → Since 0 t (judged d (one_case (one_line t)))
+since_judged : (t : Tally) (d : Compared) → Since 0 t (judged d (one_case (one_line t)))
 since_judged t d = go (failed_or_same d (one_case (one_line t))) where
   go : (judged d (one_case (one_line t)) ≡ one_case (one_line t)) ⊎ (judged d (one_case (one_line t)) ≡ one_failed (one_case (one_line t))) → Since 0 t (judged d (one_case (one_line t)))
   go (inl h) = rw h (since_case t)

@@ -1,62 +1,96 @@
--- Loops over the bytes of a word.
+-- Loops over the bytes of a line and of a word.
 use mathlib.Core.Path.{◌≡◌, refl, sym, ap, ◌∙◌}
-use mathlib.Core.Bool.{Bool, true, false, cond, ◌||◌}
+use mathlib.Core.Bool.{Bool, true, false, cond, not, ◌||◌}
 use mathlib.Core.List.{List, [], ◌∷◌}
 use mathlib.Core.Logic.{◌⊎◌, inl, inr}
-use Prim.Native.Nat.{ℕ, suc, ◌+◌, ◌-◌, ◌*◌, ◌≤◌, ◌<◌}
-use native.Mathlib.Nat.{sub-zero}
+use Prim.Native.Nat.{ℕ, suc, ◌+◌, ◌-◌, ◌*◌, ◌≤◌, ◌<◌, min}
 use native.Mathlib.Numerals.{add-one}
 use native.Mathlib.Omega.{arith}
 use lib.Dec.{eqb, ltb}
-use lib.ListN.{length, get_or, drop, drop_of_length-le}
-use lib.Seq.{drop-cons}
-use borrow.Author.Tests.{eq-eqb, ne_eqb, eqb-true, eqb-false, lt-ltb, le-ltb, ltb-true, ltb-false}
+use lib.ListN.{length, get_or, drop, take, drop_of_length-le, length-drop}
+use lib.Seq.{drop-cons, take_all}
+use borrow.Author.Tests.{eq-eqb, ne_eqb, lt-ltb, le-ltb, ltb-true, ltb-false}
+use Rattle.std.specs.Prelude.{Option, Some, None, option_and_then, unwrap_or}
+use Rattle.std.specs.List.{position, position_or_len}
 use Rattle.definition.specs.Lists.{empty}
-use Rattle.cases.specs.Bytes.{word, end_of, start_of, word_at, hex_digit, none, decimal_after, number_of}
+use Rattle.cases.specs.Bytes.{word, end_of, start_of, word_at, hex_digit, decimal_next, decimal_after, number_of}
 
--- ---- the word at i
-module _ (line : List ℕ) (i : ℕ) where
-  word_none : length line ≤ i → word (drop i line) ≡ []
-  unfolding word
-  word_none h = rw (drop_of_length-le line {i = i} h)
+-- ---- where a word ends
+word_length : (xs : List ℕ) → length (word xs) ≤ length xs
+unfolding word
+word_length [] = omega arith
+word_length (x ∷ xs) = go (eqb x 32) (word_length xs) where
+  go : (b : Bool) → length (word xs) ≤ length xs → length (cond b [] (x ∷ word xs)) ≤ suc (length xs)
+  go true h = omega arith
+  go false h = omega arith
 
-  word_space : i < length line → get_or line i 0 ≡ 32 → word (drop i line) ≡ []
-  unfolding word
-  word_space h e = rw (drop-cons line i 0 h, eq-eqb (get_or line i 0) 32 e)
+prefix_word : (xs : List ℕ) → position_or_len (λ b. eqb b 32) xs ≡ length (word xs)
+unfolding word
+prefix_word [] = refl
+prefix_word (x ∷ xs) = go (eqb x 32) (prefix_word xs) where
+  go : (b : Bool) → position_or_len (λ y. eqb y 32) xs ≡ length (word xs) → cond (not b) (1 + position_or_len (λ y. eqb y 32) xs) 0 ≡ length (cond b [] (x ∷ word xs))
+  go true h = refl
+  go false h = omega (arith, h)
 
-  word_more : i < length line → (get_or line i 0 ≡ 32 → ⊥) → word (drop i line) ≡ get_or line i 0 ∷ word (drop (suc i) line)
-  unfolding word
-  word_more h e = rw (drop-cons line i 0 h, ne_eqb (get_or line i 0) 32 e)
+-- the first space, or the end
+word_end : (xs : List ℕ) → unwrap_or (position (λ b. eqb b 32) xs) (length xs) ≡ length (word xs)
+word_end xs = go (ltb (position_or_len (λ b. eqb b 32) xs) (length xs)) refl where
+  go :
+      (t : Bool) →
+      ltb (position_or_len (λ b. eqb b 32) xs) (length xs) ≡ t →
+      unwrap_or (cond t (Some (position_or_len (λ b. eqb b 32) xs)) None) (length xs) ≡ length (word xs)
+  go true e = prefix_word xs
+  go false e = omega (arith, prefix_word xs, word_length xs, ltb-false _ _ e)
 
--- ---- no space from the start of a word to i
-pub record Ending (line : List ℕ) (from i : ℕ) : Type 0 where
-  pub left : end_of line i ≡ end_of line from
+pub rest_of : (line : List ℕ) (at : ℕ) → take (length line - at) (drop at line) ≡ drop at line
+rest_of line at = take_all (length line - at) (drop at line) (omega (arith, length-drop at line))
 
-pub ending_start : (line : List ℕ) (from : ℕ) → Ending line from from
-ending_start line from = record { left = refl }
+pub drop_min : (line : List ℕ) (from : ℕ) {n : ℕ} → n ≡ min from (length line) → take (length line - n) (drop n line) ≡ drop from line
+drop_min line from {n} e = rest_of line n ∙ go (ltb from (length line)) refl where
+  go : (t : Bool) → ltb from (length line) ≡ t → drop n line ≡ drop from line
+  go true q = let z : n ≡ from = omega (arith, ltb-true from (length line) q) in ap (λ (k : ℕ). drop k line) z
+  go false q =
+      let f : length line ≤ from = ltb-false from (length line) q in
+      let g : length line ≤ n = omega arith in
+      drop_of_length-le line {i = n} g ∙ sym (drop_of_length-le line {i = from} f)
 
-module _ {line : List ℕ} {from i : ℕ} (p : Ending line from i) where
-  pub ending_end : length line ≤ i → i ≡ end_of line from
+pub ends_word : (line rest : List ℕ) (from : ℕ) {p : Option ℕ} {r : ℕ} → rest ≡ drop from line → p ≡ position (λ b. eqb b 32) rest → r ≡ unwrap_or p (length rest) → from + r ≡ end_of line from
+unfolding end_of
+ends_word line rest from e h k = ap (λ (n : ℕ). from + n) (k ∙ rw (h, e) (word_end (drop from line)))
+
+take_word : (xs : List ℕ) → take (length (word xs)) xs ≡ word xs
+unfolding word
+take_word [] = refl
+take_word (x ∷ xs) = go (eqb x 32) (take_word xs) where
+  go : (b : Bool) → take (length (word xs)) xs ≡ word xs → take (length (cond b [] (x ∷ word xs))) (x ∷ xs) ≡ cond b [] (x ∷ word xs)
+  go true h = refl
+  go false h = ap (λ (ys : List ℕ). x ∷ ys) h
+
+start_within : (line : List ℕ) (k : ℕ) → start_of line k ≤ length line
+unfolding start_of
+start_within [] k = omega arith
+start_within (b ∷ bs) k = go (eqb k 0) (start_within bs (k - cond (eqb b 32) 1 0)) where
+  go : (t : Bool) → start_of bs (k - cond (eqb b 32) 1 0) ≤ length bs → cond t 0 (suc (start_of bs (k - cond (eqb b 32) 1 0))) ≤ suc (length bs)
+  go true h = omega arith
+  go false h = omega (arith, h)
+
+-- word k, by its two ends
+module _ (line : List ℕ) (k : ℕ) {from to : ℕ} (s : from ≡ start_of line k) (e : to ≡ end_of line from) where
+  pub word_start : from ≤ length line
+  word_start = omega (arith, start_within line k)
+
+  pub word_from_to : (from ≤ to) × (to ≤ length line)
   unfolding end_of
-  ending_end h = let z : length (word (drop i line)) ≡ 0 = rw (word_none line i h) in omega (arith, p.left)
+  word_from_to = (omega arith, omega (arith, word_start, word_length (drop from line), length-drop from line))
 
-  pub ending_space : i < length line → get_or line i 0 ≡ 32 → i ≡ end_of line from
-  unfolding end_of
-  ending_space h e = let z : length (word (drop i line)) ≡ 0 = rw (word_space line i h e) in omega (arith, p.left)
-
-  pub ending_next : i < length line → (get_or line i 0 ≡ 32 → ⊥) → Ending line from (i + 1)
-  unfolding end_of
-  ending_next h e =
-      let z : length (word (drop i line)) ≡ suc (length (word (drop (suc i) line))) = rw (word_more line i h e) in
-      record { left = rw add-one (omega (arith, p.left)) }
+  pub word_is : take (to - from) (drop from line) ≡ word_at line k
+  unfolding word_at end_of
+  word_is = let z : to - from ≡ length (word (drop from line)) = omega arith in rw (z, ← s) (take_word (drop from line))
 
 -- ---- the bytes before i have so many spaces, and at most k
 pub record Starting (line : List ℕ) (k spaces i : ℕ) : Type 0 where
   pub few : spaces ≤ k
   pub left : i + start_of (drop i line) (k - spaces) ≡ start_of line k
-
-pub starting_start : (line : List ℕ) (k : ℕ) → Starting line k 0 0
-starting_start line k = record { few = omega arith; left = rw sub-zero (omega arith) }
 
 module _ {line : List ℕ} {k spaces i : ℕ} (p : Starting line k spaces i) where
   pub starting_end : length line ≤ i → i ≡ start_of line k
@@ -87,66 +121,50 @@ module _ {line : List ℕ} {k spaces i : ℕ} (p : Starting line k spaces i) whe
         = starting_byte e ∙ rw (ne_eqb (get_or line i 0) 32 q.0, d) in
         record { few = omega (arith, p.few); left = rw add-one (omega (arith, p.left)) }
 
--- ---- the digits of a word
-word_there : (line : List ℕ) (i : ℕ) → 0 < length (word (drop i line)) → word (drop i line) ≡ get_or line i 0 ∷ word (drop (suc i) line)
-word_there line i h = go (ltb i (length line)) (eqb (get_or line i 0) 32) refl refl where
-  go : (s t : Bool) → ltb i (length line) ≡ s → eqb (get_or line i 0) 32 ≡ t → word (drop i line) ≡ get_or line i 0 ∷ word (drop (suc i) line)
-  go false t e d =
-      let z : length (word (drop i line)) ≡ 0 = rw (word_none line i (ltb-false i (length line) e)) in
-      absurd (omega arith)
-  go true true e d =
-      let z : length (word (drop i line)) ≡ 0 = rw (word_space line i (ltb-true i (length line) e) (eqb-true (get_or line i 0) 32 d)) in
-      absurd (omega arith)
-  go true false e d = word_more line i (ltb-true i (length line) e) (eqb-false (get_or line i 0) 32 d)
+-- ---- decimal digits: n is read from those before i
+pub record Summing (digits : List ℕ) (n i : ℕ) : Type 0 where
+  pub left : decimal_after n (drop i digits) ≡ decimal_after 0 digits
 
--- n is read from a word up to i
-pub record Summing (line : List ℕ) (from to n i : ℕ) : Type 0 where
-  pub ends : i + length (word (drop i line)) ≡ to
-  pub left : decimal_after n (word (drop i line)) ≡ decimal_after 0 (word (drop from line))
-
-pub summing_start : (line : List ℕ) (from to : ℕ) → to ≡ end_of line from → Summing line from to 0 from
-unfolding end_of
-summing_start line from to e = record { ends = sym e; left = refl }
-
-module _ {line : List ℕ} {from to n i : ℕ} (p : Summing line from to n i) where
-  pub summing_end : to ≤ i → n ≡ decimal_after 0 (word (drop from line))
+module _ {digits : List ℕ} {n i : ℕ} (p : Summing digits n i) where
+  pub summing_end : length digits ≤ i → Some n ≡ decimal_after 0 digits
   unfolding decimal_after
-  summing_end h = go (word (drop i line)) refl where
-    go : (w : List ℕ) → word (drop i line) ≡ w → n ≡ decimal_after 0 (word (drop from line))
-    go [] e = sym (ap (decimal_after n) e) ∙ p.left
-    go (b ∷ w) e = let z : length (word (drop i line)) ≡ suc (length w) = rw e in absurd (omega (arith, p.ends))
+  summing_end h = sym (rw (drop_of_length-le digits {i = i} h)) ∙ p.left
 
-  module _ (h : i < to) (b d : ℕ) (eb : b ≡ get_or line i 0) (ed : (d ≡ hex_digit b) × (d < 17)) where
-    there : word (drop i line) ≡ b ∷ word (drop (suc i) line)
-    there = rw eb (word_there line i (omega (arith, p.ends)))
-
-    step : cond (ltb 9 d || ltb 99999 n) none (decimal_after (10 * n + d) (word (drop (suc i) line))) ≡ decimal_after 0 (word (drop from line))
+  module _ (h : i < length digits) {d : Option ℕ} (e : d ≡ hex_digit (get_or digits i 0)) where
+    step : option_and_then (λ m. decimal_after m (drop (suc i) digits)) (decimal_next n d) ≡ decimal_after 0 digits
     unfolding decimal_after
-    step = rw ed.0 (sym (ap (decimal_after n) there) ∙ p.left)
+    step = rw e (sym (rw (drop-cons digits i 0 h)) ∙ p.left)
 
-    pub summing_other : 9 < d → none ≡ decimal_after 0 (word (drop from line))
-    summing_other g = sym (rw (lt-ltb 9 d g)) ∙ step
+    pub summing_none : d ≡ None → None ≡ decimal_after 0 digits
+    unfolding decimal_next
+    summing_none q = sym (rw q) ∙ step
 
-    pub summing_large : d ≤ 9 → 99999 < n → none ≡ decimal_after 0 (word (drop from line))
-    summing_large g q = sym (rw (le-ltb 9 d g, lt-ltb 99999 n q)) ∙ step
+    module _ {k : ℕ} (q : d ≡ Some k) where
+      summed : option_and_then (λ m. decimal_after m (drop (suc i) digits)) (cond (ltb 9 k || ltb 99999 n) None (Some (10 * n + k))) ≡ decimal_after 0 digits
+      unfolding decimal_next
+      summed = sym (rw q) ∙ step
 
-    pub summing_next : d ≤ 9 → n ≤ 99999 → Summing line from to (10 * n + d) (i + 1)
-    summing_next g q =
-        let z : length (word (drop i line)) ≡ suc (length (word (drop (suc i) line))) = rw there in
-        record { ends = rw add-one (omega (arith, p.ends)); left = rw add-one (sym (rw (le-ltb 9 d g, le-ltb 99999 n q)) ∙ step) }
+      pub summing_letter : 9 < k → None ≡ decimal_after 0 digits
+      summing_letter g = sym (rw (lt-ltb 9 k g)) ∙ summed
 
--- ---- word k
-module _ (line : List ℕ) (k from to : ℕ) (es : from ≡ start_of line k) (ee : to ≡ end_of line from) where
-  pub number_none : to ≤ from → none ≡ number_of line k
-  unfolding number_of word_at end_of
-  number_none h = rw (← es) (go (word (drop from line)) (omega arith)) where
-    go : (w : List ℕ) → length w ≡ 0 → none ≡ cond (empty w) none (decimal_after 0 w)
-    go [] e = refl
-    go (b ∷ w) e = absurd (omega arith)
+      pub summing_large : k ≤ 9 → 99999 < n → None ≡ decimal_after 0 digits
+      summing_large g l = sym (rw (le-ltb 9 k g, lt-ltb 99999 n l)) ∙ summed
 
-  pub number_some : from < to → {r : ℕ} → r ≡ decimal_after 0 (word (drop from line)) → r ≡ number_of line k
-  unfolding number_of word_at end_of
-  number_some h {r} e = rw (← es) (e ∙ go (word (drop from line)) (omega arith)) where
-    go : (w : List ℕ) → 0 < length w → decimal_after 0 w ≡ cond (empty w) none (decimal_after 0 w)
-    go [] g = absurd (omega arith)
-    go (b ∷ w) g = refl
+      pub summing_next : k ≤ 9 → n ≤ 99999 → Summing digits (10 * n + k) (i + 1)
+      summing_next g l = record { left = rw add-one (sym (rw (le-ltb 9 k g, le-ltb 99999 n l)) ∙ summed) }
+
+-- ---- word k as a number
+module _ (line : List ℕ) (k : ℕ) {w : List ℕ} (e : w ≡ word_at line k) where
+  pub number_none : length w ≡ 0 → None ≡ number_of line k
+  unfolding number_of
+  number_none h = rw (← e) (go w h) where
+    go : (v : List ℕ) → length v ≡ 0 → None ≡ cond (empty v) None (decimal_after 0 v)
+    go [] h = refl
+    go (b ∷ v) h = absurd (omega arith)
+
+  pub number_some : (length w ≡ 0 → ⊥) → decimal_after 0 w ≡ number_of line k
+  unfolding number_of
+  number_some h = rw (← e) (go w h) where
+    go : (v : List ℕ) → (length v ≡ 0 → ⊥) → decimal_after 0 v ≡ cond (empty v) None (decimal_after 0 v)
+    go [] h = absurd (h refl)
+    go (b ∷ v) h = refl

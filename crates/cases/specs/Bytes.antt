@@ -1,10 +1,11 @@
 -- What is read from the bytes of a line.
-use Rattle.std.specs.Prelude.{Bool, cond, ◌&&◌, ◌||◌, List, [], ◌∷◌, map, ℕ, zero, suc, ◌+◌, ◌-◌, ◌*◌, ◌/◌, ◌%◌, min, eqb, leb, ltb, length, get_or, drop}
-use Rattle.definition.specs.Lists.{all, empty, below, up_from}
+use Rattle.std.specs.Prelude.{Bool, cond, ◌&&◌, ◌||◌, List, [], ◌∷◌, map, ℕ, zero, suc, Option, Some, None, option_and_then, unwrap_or, ◌+◌, ◌-◌, ◌*◌, ◌/◌, min, eqb, leb, ltb, length, get_or, drop}
+use Rattle.std.specs.List.{list_all, range_with_len}
+use Rattle.definition.specs.Lists.{empty, below}
 
 -- every number from a to below b passes
 unfoldable pub between : (ℕ → Bool) → ℕ → ℕ → Bool
-between p a b = all p (up_from (b - a) a)
+between p a b = list_all p (range_with_len a (b - a))
 
 -- bytes i and i + 1 as a number, the low byte first; beyond the end they are 0
 unfoldable pub two_at : List ℕ → ℕ → ℕ
@@ -36,32 +37,33 @@ start_of (b ∷ bs) k = let rest = start_of bs (k - cond (eqb b 32) 1 0) in cond
 unfoldable pub word_at : List ℕ → ℕ → List ℕ
 word_at line k = word (drop (start_of line k) line)
 
--- a hexadecimal digit; 16 if the byte is none
-unfoldable pub hex_digit : ℕ → ℕ
-hex_digit b = cond (leb 48 b && leb b 57) (b - 48) (cond (leb 97 b && leb b 102) (b - 87) 16)
+-- the value of a hexadecimal digit
+unfoldable pub hex_digit : ℕ → Option ℕ
+hex_digit b = cond (leb 48 b && leb b 57) (Some (b - 48)) (cond (leb 97 b && leb b 102) (Some (b - 97 + 10)) None)
 
--- what a number that is not there is read as
-abbrev pub none : ℕ
-none = 1000000
+-- a digit more of a decimal number: none if it is no decimal digit or the number would not be below a million
+unfoldable pub decimal_next : ℕ → Option ℕ → Option ℕ
+decimal_next n None = None
+decimal_next n (Some d) = cond (ltb 9 d || ltb 99999 n) None (Some (10 * n + d))
 
--- the number whose first digits are n's and whose others are the bytes; `none` if a byte is no decimal digit or the number is not below a million
-unfoldable pub decimal_after : ℕ → List ℕ → ℕ
-decimal_after n [] = n
-decimal_after n (b ∷ bs) = let rest = decimal_after (10 * n + hex_digit b) bs in cond (ltb 9 (hex_digit b) || ltb 99999 n) none rest
+-- the number whose first digits are n's and whose others are the bytes
+unfoldable pub decimal_after : ℕ → List ℕ → Option ℕ
+decimal_after n [] = Some n
+decimal_after n (b ∷ bs) = option_and_then (λ m. decimal_after m bs) (decimal_next n (hex_digit b))
 
 -- word k as a decimal number
-unfoldable pub number_of : List ℕ → ℕ → ℕ
-number_of line k = cond (empty (word_at line k)) none (decimal_after 0 (word_at line k))
+unfoldable pub number_of : List ℕ → ℕ → Option ℕ
+number_of line k = cond (empty (word_at line k)) None (decimal_after 0 (word_at line k))
 
--- n, then k hexadecimal digits; 4,294,967,296 if they are not there
-unfoldable pub hex_after : ℕ → ℕ → List ℕ → ℕ
-hex_after zero n bs = n
-hex_after (suc k) n [] = 4294967296
-hex_after (suc k) n (b ∷ bs) = let rest = hex_after k (16 * n + hex_digit b) bs in cond (ltb 15 (hex_digit b)) 4294967296 rest
+-- n, then k hexadecimal digits
+unfoldable pub hex_after : ℕ → ℕ → List ℕ → Option ℕ
+hex_after zero n bs = Some n
+hex_after (suc k) n [] = None
+hex_after (suc k) n (b ∷ bs) = option_and_then (λ d. hex_after k (16 * n + d) bs) (hex_digit b)
 
 -- the byte written at i by two hexadecimal digits; what is no digit counts as 0
 unfoldable pub hex_byte : List ℕ → ℕ → ℕ
-hex_byte line i = hex_digit (get_or line i 0) % 16 * 16 + hex_digit (get_or line (i + 1) 0) % 16
+hex_byte line i = 16 * unwrap_or (hex_digit (get_or line i 0)) 0 + unwrap_or (hex_digit (get_or line (i + 1) 0)) 0
 
 -- how many bytes are written from one position to another: one for each two digits, and one for a digit that is left over
 unfoldable pub written : List ℕ → ℕ → ℕ → ℕ

@@ -1,9 +1,7 @@
 -- The counts of a file, from its bytes.
-use Rattle.std.specs.Prelude.{◌≡◌, cond, List, [], ◌∷◌, ◌++◌, ℕ, ◌≤◌, eqb, ltb, length, take}
+use Rattle.std.specs.Prelude.{◌≡◌, cond, List, [], ◌∷◌, ◌++◌, ℕ, eqb, ltb, length, Option, Some, None, Result, Ok, Err}
 use Rattle.cases.specs.Tally.{one_failed, finished}
-use Rattle.cases.specs.declared.reading.More.{More}
-use Rattle.cases.specs.declared.reading.More.TheVariants as M
-use Rattle.cases.specs.declared.reading.Progress.{Progress}
+use Rattle.std.specs.declared.io.Error.{Error}
 use Rattle.cases.specs.declared.reading.Tally.{Tally}
 
 -- the line so far, and the counts
@@ -35,17 +33,20 @@ pub data FileRead (t r : Tally) : Type 0 where
   whole : (bytes : List ℕ) → r ≡ tally_of t bytes → FileRead t r
   broken : (bytes : List ℕ) → r ≡ one_failed (tally_of t bytes) → FileRead t r
 
--- ---- the buffer of a line
-abbrev pub reading_of : List ℕ → Progress → Reading
-reading_of line p = record { held = take p.len line; tally = p.tally }
+-- ---- the line that is held
+abbrev pub reading_of : List ℕ → Tally → Reading
+reading_of line t = record { held = line; tally = t }
 
--- the bytes bring one buffer to the other
-pub record Takes (line : List ℕ) (p : Progress) (bytes after : List ℕ) (q : Progress) : Type 0 where
-  pub is : reading_of after q ≡ all_taken (length line) (reading_of line p) bytes
-  pub fits : q.len ≤ length after
+-- the most bytes of a line that are held
+abbrev pub longest_line : ℕ
+longest_line = 4096
+
+-- the bytes bring one line and tally to the other
+pub record Takes (line : List ℕ) (t : Tally) (bytes after : List ℕ) (r : Tally) : Type 0 where
+  pub is : reading_of after r ≡ all_taken longest_line (reading_of line t) bytes
 
 -- some bytes do, if there was more to read
-pub data Went (line : List ℕ) (p : Progress) (after : List ℕ) : More → Type 0 where
-  failed : Went line p after M.Failed
-  ended : Went line p after M.Ended
-  went : (bytes : List ℕ) (q : Progress) → Takes line p bytes after q → Went line p after (M.Read q)
+pub data Went (line : List ℕ) (t : Tally) (after : List ℕ) : Result (Option Tally) Error → Type 0 where
+  failed : (e : Error) → Went line t after (Err e)
+  ended : Went line t after (Ok None)
+  went : (bytes : List ℕ) (r : Tally) → Takes line t bytes after r → Went line t after (Ok (Some r))

@@ -1,9 +1,7 @@
 -- The counts of a file of vectors.
-use Rattle.std.specs.Prelude.{cond, ◌||◌, List, ℕ, ◌+◌, ◌≤◌, ◌<◌, eqb, ltb, get_or}
+use Rattle.std.specs.Prelude.{cond, ◌||◌, List, ℕ, ◌+◌, ◌≤◌, ◌<◌, Ok, Err, eqb, ltb, get_or}
 use Rattle.definition.specs.Lists.{empty}
-use Rattle.cases.specs.Compared.{difference_of}
-use Rattle.cases.specs.declared.compare.Difference.{Difference}
-use Rattle.cases.specs.declared.compare.Difference.TheVariants as D
+use Rattle.cases.specs.Compared.{Compared, difference_of}
 use Rattle.cases.specs.declared.reading.Tally.{Tally}
 
 -- a count stops at 10^9
@@ -19,16 +17,10 @@ one_line t = record { line = one_more t.line; cases = t.cases; failed = t.failed
 unfoldable pub one_case : Tally → Tally
 one_case t = record { line = t.line; cases = one_more t.cases; failed = t.failed }
 
--- a case whose difference is known: it fails if there is one
-unfoldable pub judged : Difference → Tally → Tally
-judged D.Nothing t = t
-judged D.Form t = one_failed t
-judged D.Verdict t = one_failed t
-judged D.Identifiers t = one_failed t
-judged D.Worlds t = one_failed t
-judged D.Steps t = one_failed t
-judged D.Digest t = one_failed t
-judged D.Trays t = one_failed t
+-- a case that is compared: it fails if something differs
+unfoldable pub judged : Compared → Tally → Tally
+judged (Ok u) t = t
+judged (Err d) t = one_failed t
 
 -- a whole line; an empty one, and one that begins with #, is no case
 unfoldable pub finished : List ℕ → Tally → Tally

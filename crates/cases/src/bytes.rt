@@ -1,32 +1,26 @@
 // Bytes of a slice, and the words of a line.
-ghost use Rattle.std.specs.Prelude.{◌≡◌, ◌++◌, ◌<◌, min, length, get_or, drop};
-ghost use Rattle.cases.specs.Bytes.{two_at, filled, begins_with, end_of, start_of, hex_digit, number_of, hex_after, written, decoded};
+ghost use Rattle.std.specs.Prelude.{◌≡◌, ◌+◌, ◌<◌, min, length, get_or, IfSome};
+ghost use Rattle.cases.specs.Bytes.{two_at, filled, begins_with, end_of, start_of, word_at, hex_digit, hex_byte, decimal_after, number_of, hex_after, written, decoded};
 
-// What a number that is not there is read as.
-pub const NONE: usize = 1000000;
+use arrayvec::ArrayVec;
 
-pub fn wide(b: u8) -> usize
-    ensures value { result ≡ b }
-    ensures upper_bound { result < 256 }
-{
-    b as usize
-}
+// The most bytes that a branch of a line may have.
+pub const MOST_BYTES: usize = 2048;
 
 // Byte i; 0 beyond the end.
 pub fn byte(s: &[u8], i: usize) -> u8
     ensures { result ≡ get_or s.now i 0 }
 {
-    if i < s.len() { s[i] } else { 0 }
+    s.get(i).copied().unwrap_or(0)
 }
 
 // Bytes i and i + 1 as a number, the low byte first.
+#[tactic(auto, unfolding(crate::specs::Bytes::two_at))]
 pub fn two(s: &[u8], i: usize) -> usize
     ensures { (result ≡ two_at s.now i) × (result < 65536) }
 {
     if i < s.len() {
-        let low = wide(byte(s, i));
-        let high = wide(byte(s, i + 1));
-        low + 256 * high
+        usize::from(byte(s, i)) + 256 * usize::from(byte(s, i + 1))
     } else {
         0
     }
@@ -36,139 +30,118 @@ pub fn two(s: &[u8], i: usize) -> usize
 pub fn all(s: &[u8], from: usize, to: usize, value: u8) -> bool
     ensures { result ≡ filled s.now from to value }
 {
-    let mut i = from;
-    while i < to {
-        if byte(s, i) != value {
-            return false;
-        }
-        i += 1;
-    }
-    true
+    (from..to).all(|i| byte(s, i) == value)
 }
 
-// Whether s begins with t.
+// Whether s, with zeros behind it, begins with t.
 pub fn begins(s: &[u8], t: &[u8]) -> bool
     ensures { result ≡ begins_with s.now t.now }
 {
-    let mut i: usize = 0;
-    while i < t.len() {
-        if byte(s, i) != t[i] {
-            return false;
-        }
-        i += 1;
-    }
-    true
+    (0..t.len()).all(|i| byte(s, i) == t[i])
 }
 
 // Where the word that starts at a position ends.
 pub fn end_of(line: &[u8], from: usize) -> usize
     ensures { result ≡ end_of line.now from }
 {
-    let mut i = from;
-    while i < line.len() {
-        if line[i] == b' ' {
-            return i;
-        }
-        i += 1;
-    }
-    i
+    let rest = &line[from.min(line.len())..];
+    from + rest.iter().position(|b| *b == b' ').unwrap_or(rest.len())
 }
 
 // Where word k starts; the end of the line if it has no such word.
 pub fn start_of(line: &[u8], k: usize) -> usize
     ensures { result ≡ start_of line.now k }
 {
-    let mut spaces: usize = 0;
-    let mut i: usize = 0;
-    while i < line.len() {
+    let mut spaces = 0;
+    for (i, b) in line.iter().enumerate() {
         if spaces == k {
             return i;
         }
-        if line[i] == b' ' {
+        if *b == b' ' {
             spaces += 1;
         }
-        i += 1;
     }
-    i
+    line.len()
+}
+
+// Word k; empty if the line has no such word.
+fn word_at(line: &[u8], k: usize) -> &[u8]
+    ensures { result.now ≡ word_at line.now k }
+{
+    let from = start_of(line, k);
+    &line[from..end_of(line, from)]
+}
+
+// The digits as a decimal number below a million.
+fn decimal(digits: &[u8]) -> Option<usize>
+    ensures { result ≡ decimal_after 0 digits.now }
+{
+    let mut n = 0;
+    for b in digits {
+        let digit = hex_digit(*b)?;
+        if 9 < digit || 99999 < n {
+            return None;
+        }
+        n = 10 * n + usize::from(digit);
+    }
+    Some(n)
 }
 
 // Word k as a decimal number below a million.
-pub fn number_of(line: &[u8], k: usize) -> usize
+pub fn number_of(line: &[u8], k: usize) -> Option<usize>
     ensures { result ≡ number_of line.now k }
 {
-    let from = start_of(line, k);
-    let to = end_of(line, from);
-    if to <= from {
-        return NONE;
+    let word = word_at(line, k);
+    if word.is_empty() {
+        return None;
     }
-    let mut n: usize = 0;
-    let mut i = from;
-    while i < to {
-        let d = hex_digit(byte(line, i));
-        if 9 < d {
-            return NONE;
-        }
-        if 99999 < n {
-            return NONE;
-        }
-        n = 10 * n + d;
-        i += 1;
-    }
-    n
+    decimal(word)
 }
 
-// A hexadecimal digit; 16 if the byte is none.
-fn hex_digit(b: u8) -> usize
-    ensures { (result ≡ hex_digit b) × (result < 17) }
+// The value of a hexadecimal digit.
+#[tactic(auto, unfolding(crate::specs::Bytes::hex_digit))]
+fn hex_digit(b: u8) -> Option<u8>
+    ensures value { result ≡ hex_digit b }
+    ensures bound { IfSome result (λ digit. digit < 16) }
 {
     match b {
-        48..=57 => wide(b) - 48,
-        97..=102 => wide(b) - 87,
-        0..=47 | 58..=96 | 103..=255 => 16,
+        b'0'..=b'9' => Some(b - b'0'),
+        b'a'..=b'f' => Some(b - b'a' + 10),
+        _ => None,
     }
 }
 
-// Eight hexadecimal digits from a position; a number of more than 32 bits if they are not there.
-pub fn hex_at(line: &[u8], from: usize) -> u64
-    ensures { result ≡ hex_after 8 0 (drop from line.now) }
+// The number of the first eight hexadecimal digits.
+pub fn hex_number(digits: &[u8]) -> Option<u64>
+    ensures { result ≡ hex_after 8 0 digits.now }
 {
-    let mut n: u64 = 0;
-    let mut k: usize = 0;
-    let mut i = from;
-    while k < 8 {
-        if line.len() <= i {
-            return 4294967296;
-        }
-        let d = hex_digit(byte(line, i));
-        if 15 < d {
-            return 4294967296;
-        }
-        n = 16 * n + d as u64;
-        i += 1;
-        k += 1;
+    let mut n = 0;
+    for b in digits.get(..8)? {
+        n = 16 * n + u64::from(hex_digit(*b)?);
     }
-    n
+    Some(n)
 }
 
-// The bytes written in hexadecimal from a position to an end; how many there are.
-pub fn decode(line: &[u8], from: usize, to: usize, out: &mut [u8]) -> usize
-    ensures value { result ≡ min (length out.old) (written line.now from to) }
-    ensures out_after { out.new ≡ decoded line.now from result ++ drop result out.old }
+// The byte of two hexadecimal digits; what is no digit counts as 0.
+#[tactic(auto, unfolding(crate::specs::Bytes::hex_byte))]
+fn hex_byte(line: &[u8], i: usize) -> u8
+    requires { i < length line.now }
+    ensures { result ≡ hex_byte line.now i }
 {
-    let mut n: usize = 0;
-    let mut i = from;
-    while i < to {
-        if line.len() <= i {
-            return n;
-        }
-        let high = hex_digit(byte(line, i));
-        let low = hex_digit(byte(line, i + 1));
-        if out.len() <= n {
-            return n;
-        }
-        out[n] = ((high % 16) * 16 + low % 16) as u8;
-        n += 1;
-        i += 2;
+    let high = hex_digit(byte(line, i)).unwrap_or(0);
+    let low = hex_digit(byte(line, i + 1)).unwrap_or(0);
+    16 * high + low
+}
+
+// The bytes written in hexadecimal from a position to an end, as many as there is room for.
+pub fn decode(line: &[u8], from: usize, to: usize) -> ArrayVec<u8, MOST_BYTES>
+    ensures { result.items ≡ decoded line.now from (min 2048 (written line.now from to)) }
+{
+    let digits = to.min(line.len()).saturating_sub(from);
+    let count = digits.div_ceil(2).min(MOST_BYTES);
+    let mut bytes = ArrayVec::new();
+    for n in 0..count {
+        bytes.push(hex_byte(line, from + 2 * n));
     }
-    n
+    bytes
 }

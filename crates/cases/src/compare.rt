@@ -1,24 +1,25 @@
 // A vector against the call's answer and trays.
-ghost use Rattle.std.specs.Prelude.{◌≡◌};
+ghost use Rattle.std.specs.Prelude.{◌≡◌, drop};
 ghost use Rattle.prover.specs.Contract.{trays};
 ghost use Rattle.prover.specs.Said.{said};
-ghost use Rattle.cases.specs.Compared.{expected_of, verdict_letter, counts_differ, digest_differs, trays_differ, full_differs, verdict_differs, answer_differs, call_differs, difference_of};
+ghost use Rattle.refusal.specs.Number.{number_of as number_of_reason};
+ghost use Rattle.cases.specs.Bytes.{hex_after};
+ghost use Rattle.cases.specs.Compared.{expected_of, digest_in, verdict_letter, counts_differ, digest_differs, trays_differ, full_differs, verdict_differs, answer_differs, call_differs, difference_of};
 
-use crate::bytes::{NONE, byte, decode, end_of, hex_at, number_of, start_of};
-use crate::digest::of_trays;
-use crate::lent::{are_zero, edges_agree, formulas_agree, nodes_agree};
-use limits::{
-    EDGE_TRAY_LENGTH, FORMULA_TRAY_LENGTH, NODE_TRAY_LENGTH, TOO_MANY_IDENTIFIERS, Worlds,
-};
-use prover::{Answer, prove};
+use crate::bytes::{byte, decode, end_of, hex_number, number_of, start_of};
+use crate::digest::Digest;
+use crate::lent::{Trays, are_zero, edges_agree, formulas_agree, nodes_agree};
+use limits::{EDGE_TRAY_LENGTH, FORMULA_TRAY_LENGTH, NODE_TRAY_LENGTH};
+use prover::{Verdict, prove};
+use refusal::{Reason, Refusal};
+use std::fmt;
 
 // So many bytes are lent beyond a tray, and one number beyond the edges.
 const MARGIN: usize = 6;
 
 // What differs.
-#[derive(Clone, Copy)]
+#[derive(Clone, Copy, Debug, PartialEq, Eq)]
 pub enum Difference {
-    Nothing,
     Form,
     Verdict,
     Identifiers,
@@ -28,218 +29,181 @@ pub enum Difference {
     Trays,
 }
 
-// What a line expects; the word by its first letter.
-#[derive(Clone, Copy)]
+impl fmt::Display for Difference {
+    fn fmt<W: fmt::Write>(&self, f: &mut fmt::Formatter<W>) -> fmt::Result {
+        f.write_str(match self {
+            Difference::Form => "form",
+            Difference::Verdict => "verdict",
+            Difference::Identifiers => "identifiers",
+            Difference::Worlds => "worlds",
+            Difference::Steps => "steps",
+            Difference::Digest => "digest",
+            Difference::Trays => "trays",
+        })
+    }
+}
+
+// What a line expects, of the words that it has; the verdict by its first letter.
+#[derive(Clone, Copy, Default)]
 struct Expected {
-    word: u8,
-    identifiers: usize,
-    worlds: usize,
-    steps: usize,
-    first: u64,
-    second: u64,
+    letter: Option<u8>,
+    identifiers: Option<usize>,
+    worlds: Option<usize>,
+    steps: Option<usize>,
+    digest: Option<Digest>,
+}
+
+// The two numbers of a digest, eight digits each.
+#[tactic(auto, unfolding(crate::specs::Compared::digest_in))]
+fn read_digest(digits: &[u8]) -> Option<Digest>
+    ensures { result ≡ digest_in (hex_after 8 0 digits.now) (hex_after 8 0 (drop 8 digits.now)) }
+{
+    let first = hex_number(digits)?;
+    let second = hex_number(digits.get(8..)?)?;
+    Some(Digest { first, second })
 }
 
 fn read_line(line: &[u8]) -> Expected
     ensures { result ≡ expected_of line.now }
 {
     let at = start_of(line, 6);
-    let word = start_of(line, 2);
     if line.len() <= at {
-        return Expected {
-            word: 0,
-            identifiers: NONE,
-            worlds: NONE,
-            steps: NONE,
-            first: 0,
-            second: 0,
-        };
+        return Expected::default();
     }
     Expected {
-        word: byte(line, word),
+        letter: Some(byte(line, start_of(line, 2))),
         identifiers: number_of(line, 3),
         worlds: number_of(line, 4),
         steps: number_of(line, 5),
-        first: hex_at(line, at),
-        second: hex_at(line, at + 8),
+        digest: read_digest(&line[at..]),
     }
 }
 
-// The first letter of the verdict; 0 of one that would be proved and late.
-fn letter(proved: bool, late: bool) -> u8
-    ensures { result ≡ verdict_letter proved late }
+// The first letter of the verdict; none of one that would be proved and late.
+#[tactic(auto, unfolding(crate::specs::Compared::verdict_letter))]
+fn letter(verdict: Verdict) -> Option<u8>
+    ensures { result ≡ verdict_letter verdict.proved verdict.late }
 {
-    if proved {
-        if late {
-            return 0;
-        }
-        return b'p';
+    match (verdict.proved, verdict.late) {
+        (true, true) => None,
+        (true, false) => Some(b'p'),
+        (false, true) => Some(b'l'),
+        (false, false) => Some(b'o'),
     }
-    if late {
-        return b'l';
-    }
-    b'o'
 }
 
-fn compare_counts(e: Expected, identifiers: usize, worlds: usize, steps: usize) -> Difference
-    ensures { result ≡ counts_differ e identifiers worlds steps }
+#[tactic(auto, unfolding(crate::specs::Compared::counts_differ))]
+fn compare_counts(expected: Expected, verdict: Verdict) -> Result<(), Difference>
+    ensures { result ≡ counts_differ expected verdict.identifiers verdict.worlds verdict.steps }
 {
-    if e.identifiers != identifiers {
-        return Difference::Identifiers;
+    if expected.identifiers != Some(usize::from(verdict.identifiers)) {
+        return Err(Difference::Identifiers);
     }
-    if e.worlds != worlds {
-        return Difference::Worlds;
+    if expected.worlds != Some(usize::from(verdict.worlds)) {
+        return Err(Difference::Worlds);
     }
-    if e.steps != steps {
-        return Difference::Steps;
+    if expected.steps != Some(usize::from(verdict.steps)) {
+        return Err(Difference::Steps);
     }
-    Difference::Nothing
+    Ok(())
 }
 
-fn compare_digest(e: Expected, nodes: &[u8], formulas: &[u8], edges: &[u32]) -> Difference
-    ensures { result ≡ digest_differs e (trays nodes.now formulas.now edges.now) }
+#[tactic(auto, unfolding(crate::specs::Compared::digest_differs))]
+fn compare_digest(expected: Expected, identifiers: usize, left: Trays) -> Result<(), Difference>
+    ensures { result ≡ digest_differs expected identifiers (trays left.entry.nodes.now left.entry.formulas.now left.entry.edges.now) }
 {
-    let d = of_trays(nodes, formulas, edges, e.identifiers);
-    if e.first != d.first {
-        return Difference::Digest;
+    if expected.digest != Some(Digest::of_trays(left, identifiers)) {
+        return Err(Difference::Digest);
     }
-    if e.second != d.second {
-        return Difference::Digest;
-    }
-    Difference::Nothing
+    Ok(())
 }
 
-fn compare_full(
-    e: Expected,
-    number: u16,
-    nodes: &[u8],
-    formulas: &[u8],
-    edges: &[u32],
-) -> Difference
-    ensures { result ≡ full_differs e number (trays nodes.now formulas.now edges.now) }
+// A run that was full.
+#[tactic(auto, unfolding(crate::specs::Compared::full_differs))]
+fn compare_full(expected: Expected, reason: Reason, left: Trays) -> Result<(), Difference>
+    ensures { result ≡ full_differs expected (number_of_reason reason) (trays left.entry.nodes.now left.entry.formulas.now left.entry.edges.now) }
 {
-    if e.word != b'f' {
-        return Difference::Verdict;
+    if expected.letter != Some(b'f') || reason != Reason::TooManyIdentifiers {
+        return Err(Difference::Verdict);
     }
-    if number != TOO_MANY_IDENTIFIERS {
-        return Difference::Verdict;
+    if !are_zero(left) {
+        return Err(Difference::Trays);
     }
-    if are_zero(nodes, formulas, edges) {
-        return Difference::Nothing;
-    }
-    Difference::Trays
+    Ok(())
 }
 
 // The bytes that no digest sees, then the digest.
+#[tactic(auto, unfolding(crate::specs::Compared::trays_differ))]
 fn compare_trays(
-    e: Expected,
+    expected: Expected,
     branch: &[u8],
-    identifiers: usize,
-    count: usize,
-    worlds: usize,
-    nodes: &[u8],
-    formulas: &[u8],
-    edges: &[u32],
-) -> Difference
-    ensures { result ≡ trays_differ e branch.now identifiers count worlds (trays nodes.now formulas.now edges.now) }
+    verdict: Verdict,
+    left: Trays,
+) -> Result<(), Difference>
+    ensures { result ≡ trays_differ expected branch.now verdict.identifiers verdict.formulas verdict.worlds (trays left.entry.nodes.now left.entry.formulas.now left.entry.edges.now) }
 {
-    if nodes_agree(nodes, identifiers) {
-        if formulas_agree(formulas, branch, count) {
-            if edges_agree(edges, worlds) {
-                return compare_digest(e, nodes, formulas, edges);
-            }
-        }
+    let identifiers = usize::from(verdict.identifiers);
+    let agree = nodes_agree(left.nodes, identifiers)
+        && formulas_agree(left.formulas, branch, usize::from(verdict.formulas))
+        && edges_agree(left.edges, usize::from(verdict.worlds));
+    if !agree {
+        return Err(Difference::Trays);
     }
-    Difference::Trays
+    compare_digest(expected, identifiers, left)
 }
 
 // The letter of the verdict, then its counts.
-fn compare_verdict(
-    e: Expected,
-    proved: bool,
-    late: bool,
-    identifiers: usize,
-    worlds: usize,
-    steps: usize,
-) -> Difference
-    ensures { result ≡ verdict_differs e proved late identifiers worlds steps }
+#[tactic(auto, unfolding(crate::specs::Compared::verdict_differs))]
+fn compare_verdict(expected: Expected, verdict: Verdict) -> Result<(), Difference>
+    ensures { result ≡ verdict_differs expected verdict.proved verdict.late verdict.identifiers verdict.worlds verdict.steps }
 {
-    if e.word != letter(proved, late) {
-        return Difference::Verdict;
+    if expected.letter != letter(verdict) {
+        return Err(Difference::Verdict);
     }
-    compare_counts(e, identifiers, worlds, steps)
+    compare_counts(expected, verdict)
 }
 
 // The answer, and the trays that the call left.
 fn compare_answer(
-    e: Expected,
+    expected: Expected,
     branch: &[u8],
-    answer: Answer,
-    nodes: &[u8],
-    formulas: &[u8],
-    edges: &[u32],
-) -> Difference
-    ensures { result ≡ answer_differs e branch.now (said answer) (trays nodes.now formulas.now edges.now) }
+    answer: Result<Verdict, Refusal>,
+    left: Trays,
+) -> Result<(), Difference>
+    ensures { result ≡ answer_differs expected branch.now (said answer) (trays left.entry.nodes.now left.entry.formulas.now left.entry.edges.now) }
 {
     match answer {
-        Answer::Refusal { number, place: _ } => compare_full(e, number, nodes, formulas, edges),
-        Answer::Verdict {
-            proved,
-            late,
-            identifiers,
-            formulas: count,
-            worlds,
-            steps,
-        } => {
-            let said = compare_verdict(
-                e,
-                proved,
-                late,
-                identifiers as usize,
-                worlds as usize,
-                steps as usize,
-            );
-            let Difference::Nothing = said else {
-                return said;
-            };
-            compare_trays(
-                e,
-                branch,
-                identifiers as usize,
-                count as usize,
-                worlds as usize,
-                nodes,
-                formulas,
-                edges,
-            )
+        Err(refusal) => compare_full(expected, refusal.reason, left),
+        Ok(verdict) => {
+            compare_verdict(expected, verdict)?;
+            compare_trays(expected, branch, verdict, left)
         }
     }
 }
 
 // The call with these flags, on trays that are longer than asked and filled with 255.
-fn compare_call(e: Expected, branch: &[u8], flags: u8) -> Difference
-    ensures { result ≡ call_differs e branch.now flags }
+fn compare_call(expected: Expected, branch: &[u8], flags: u8) -> Result<(), Difference>
+    ensures { result ≡ call_differs expected branch.now flags }
 {
-    let mut nodes = [255u8; NODE_TRAY_LENGTH + MARGIN];
-    let mut formulas = [255u8; FORMULA_TRAY_LENGTH + MARGIN];
-    let mut edges = [4294967295u32; EDGE_TRAY_LENGTH + 1];
+    let mut nodes = [u8::MAX; NODE_TRAY_LENGTH + MARGIN];
+    let mut formulas = [u8::MAX; FORMULA_TRAY_LENGTH + MARGIN];
+    let mut edges = [u32::MAX; EDGE_TRAY_LENGTH + 1];
     let answer = prove(branch, flags, &mut nodes, &mut formulas, &mut edges);
-    compare_answer(e, branch, answer, &nodes, &formulas, &edges)
+    let left = Trays {
+        nodes: &nodes,
+        formulas: &formulas,
+        edges: &edges,
+    };
+    compare_answer(expected, branch, answer, left)
 }
 
 // The line's branch and flags through the call.
-pub fn compare_line(line: &[u8]) -> Difference
+pub fn compare_line(line: &[u8]) -> Result<(), Difference>
     ensures { result ≡ difference_of line.now }
 {
-    let flags = number_of(line, 0);
-    if 255 < flags {
-        return Difference::Form;
-    }
+    let number = number_of(line, 0).ok_or(Difference::Form)?;
+    let flags = u8::try_from(number).ok().ok_or(Difference::Form)?;
     let from = start_of(line, 1);
-    let mut bytes = [0u8; 2048];
-    let n = decode(line, from, end_of(line, from), &mut bytes);
-    let branch: &[u8] = &bytes;
-    if branch.len() < n {
-        return Difference::Form;
-    }
-    compare_call(read_line(line), &branch[..n], flags as u8)
+    let branch = decode(line, from, end_of(line, from));
+    compare_call(read_line(line), branch.as_slice(), flags)
 }

@@ -5,78 +5,193 @@ ghost use Rattle.slices.specs.Text.{decimal_of};
 ghost use Rattle.cases.specs.Bytes.{two_at};
 ghost use Rattle.cases.specs.Text.{Fed, digest_of, number_or_none, letter_of, has_one, name_of, LinksAt, formula_text, formula_or_comment, node_line, node_lines, edge_line, edges_from, text_of};
 
-use crate::bytes::{byte, two, wide};
+use crate::bytes::{byte, two};
+use crate::lent::Trays;
 use limits::{EDGE_TRAY_LENGTH, MOST_FORMULAS, MOST_IDENTIFIERS, NODE_LENGTH, RECORD_LENGTH};
 
-#[derive(Clone, Copy)]
+// The digest of what is written so far. Each method writes a piece behind it.
+#[derive(Clone, Copy, Debug, PartialEq, Eq)]
 pub struct Digest {
     pub first: u64,
     pub second: u64,
 }
 
-fn add(d: Digest, b: u8) -> Digest
-    ensures { Fed d (b ∷ []) result }
-{
-    let n = b as u64;
-    let first = d.first % 2147483647 * 257 + n;
-    let second = d.second % 2147483629 * 257 + n;
-    Digest {
-        first: first % 2147483647,
-        second: second % 2147483629,
+impl Digest {
+    const EMPTY: Digest = Digest {
+        first: 0,
+        second: 0,
+    };
+
+    fn byte(self, b: u8) -> Digest
+        ensures { Fed self (b ∷ []) result }
+    {
+        let n = u64::from(b);
+        let first = self.first % 2147483647 * 257 + n;
+        let second = self.second % 2147483629 * 257 + n;
+        Digest {
+            first: first % 2147483647,
+            second: second % 2147483629,
+        }
+    }
+
+    fn figure(self, n: usize) -> Digest
+        ensures { Fed self ((48 + n % 10) ∷ []) result }
+    {
+        self.byte(b'0' + (n % 10) as u8)
+    }
+
+    // A number in decimal.
+    fn number(self, n: usize) -> Digest
+        ensures { Fed self (decimal_of n) result }
+    {
+        if n < 10 {
+            return self.figure(n);
+        }
+        self.number(n / 10).figure(n)
+    }
+
+    // A number of a node, or a dash for none.
+    fn number_or_none(self, n: usize) -> Digest
+        ensures { Fed self (number_or_none n) result }
+    {
+        if n == 65535 {
+            return self.byte(b'-');
+        }
+        self.number(n)
+    }
+
+    // An atom, or the letter of a kind.
+    fn name(self, kind: u8, left: usize) -> Digest
+        ensures { Fed self (name_of kind left) result }
+    {
+        if kind == 0 {
+            return self.byte(b'A').number(left);
+        }
+        self.byte(letter(kind))
+    }
+
+    // Formula f written out by its links. A link that is not to an earlier record stops.
+    fn formula(self, tray: &[u8], f: usize) -> Digest
+        ensures { Fed self (formula_text tray.now f) result }
+    {
+        if MOST_FORMULAS <= f {
+            return self.byte(b'?');
+        }
+        let links = Links::at(tray, f);
+        let named = self.name(links.kind, links.left);
+        if links.kind == 0 {
+            return named;
+        }
+        if f <= links.left {
+            return named.byte(b'?');
+        }
+        let first = named.byte(b'(').formula(tray, links.left);
+        if has_one(links.kind) {
+            return first.byte(b')');
+        }
+        if f <= links.right {
+            return first.byte(b'?');
+        }
+        first.byte(b',').formula(tray, links.right).byte(b')')
+    }
+
+    fn formula_or_comment(self, tray: &[u8], f: usize) -> Digest
+        ensures { Fed self (formula_or_comment tray.now f) result }
+    {
+        if f == 65535 {
+            return self.byte(b'#');
+        }
+        self.formula(tray, f)
+    }
+
+    // A byte as a number, and a space.
+    fn small(self, tray: &[u8], i: usize) -> Digest
+        ensures { Fed self (decimal_of (get_or tray.now i 0) ++ (32 ∷ [])) result }
+    {
+        self.number(usize::from(byte(tray, i))).byte(b' ')
+    }
+
+    // The number of a node or none in two bytes, and what ends it.
+    fn link(self, tray: &[u8], i: usize, end: u8) -> Digest
+        ensures { Fed self (number_or_none (two_at tray.now i) ++ (end ∷ [])) result }
+    {
+        self.number_or_none(two(tray, i)).byte(end)
+    }
+
+    // The line of the node whose record stands at a position.
+    fn node_line(self, nodes: &[u8], formulas: &[u8], at: usize) -> Digest
+        ensures { Fed self (node_line nodes.now formulas.now at) result }
+    {
+        if nodes.len() <= at {
+            return self;
+        }
+        self.link(nodes, at, b' ')
+            .small(nodes, at + 2)
+            .small(nodes, at + 3)
+            .formula_or_comment(formulas, two(nodes, at + 4))
+            .byte(b' ')
+            .link(nodes, at + 6, b' ')
+            .link(nodes, at + 8, b'\n')
+    }
+
+    // The line of an edge, if the lowest bit is set.
+    fn edge_line(self, u: usize, v: usize, bits: u32) -> Digest
+        ensures { Fed self (edge_line u v bits) result }
+    {
+        if bits % 2 == 1 {
+            return self.number(u).byte(b'>').number(v).byte(b'\n');
+        }
+        self
+    }
+
+    // The lines of the edges from world u: bit v of its number says that u reaches v.
+    fn row(self, u: usize, bits: u32) -> Digest
+        ensures { Fed self (edges_from u bits) result }
+    {
+        let mut text = self;
+        for v in 0..32 {
+            text = text.edge_line(u, v, bits >> v);
+        }
+        text
+    }
+
+    // The digest of a run that issued so many identifiers.
+    pub fn of_trays(trays: Trays, identifiers: usize) -> Digest
+        ensures { result ≡ digest_of (text_of trays.entry.nodes.now trays.entry.formulas.now trays.entry.edges.now identifiers) }
+    {
+        let mut text = node_lines(trays.nodes, trays.formulas, identifiers);
+        let rows = &trays.edges[..EDGE_TRAY_LENGTH.min(trays.edges.len())];
+        for (u, bits) in rows.iter().enumerate() {
+            text = text.row(u, *bits);
+        }
+        text
     }
 }
 
-fn figure(d: Digest, n: usize) -> Digest
-    ensures { Fed d ((48 + n % 10) ∷ []) result }
+fn node_lines(nodes: &[u8], formulas: &[u8], identifiers: usize) -> Digest
+    ensures { result ≡ digest_of (node_lines nodes.now formulas.now identifiers) }
 {
-    add(d, (48 + n % 10) as u8)
-}
-
-// A number in decimal.
-fn number(d: Digest, n: usize) -> Digest
-    ensures { Fed d (decimal_of n) result }
-{
-    if n < 10 {
-        return figure(d, n);
+    let mut text = Digest::EMPTY;
+    for i in 0..identifiers.min(MOST_IDENTIFIERS) {
+        text = text.node_line(nodes, formulas, NODE_LENGTH * i);
     }
-    let front = number(d, n / 10);
-    figure(front, n)
-}
-
-// A number of a node, or a dash for none.
-fn number_or_none(d: Digest, n: usize) -> Digest
-    ensures { Fed d (number_or_none n) result }
-{
-    if n == 65535 {
-        return add(d, b'-');
-    }
-    number(d, n)
+    text
 }
 
 // The letter of a kind.
+#[tactic(auto, unfolding(crate::specs::Text::letter_of))]
 fn letter(kind: u8) -> u8
     ensures { result ≡ letter_of kind }
 {
-    match kind {
-        1 => b'N',
-        2 => b'C',
-        3 => b'D',
-        4 => b'I',
-        5 => b'B',
-        6 => b'S',
-        7 => b'P',
-        8 => b'L',
-        0 | 9..=255 => b'?',
-    }
+    let letters = b"?NCDIBSPL";
+    letters.get(usize::from(kind)).copied().unwrap_or(b'?')
 }
 
+#[tactic(auto, unfolding(crate::specs::Text::has_one))]
 fn has_one(kind: u8) -> bool
     ensures { result ≡ has_one kind }
 {
-    match kind {
-        2..=6 => false,
-        0..=1 | 7..=255 => true,
-    }
+    !matches!(kind, 2..=6)
 }
 
 // The record of a formula: its kind and its two links.
@@ -87,148 +202,16 @@ struct Links {
     right: usize,
 }
 
-fn links_of(tray: &[u8], f: usize) -> Links
-    requires { f < most_formulas }
-    ensures { LinksAt tray.now f result.kind result.left result.right }
-{
-    let at = RECORD_LENGTH * f;
-    Links {
-        kind: byte(tray, at),
-        left: two(tray, at + 2),
-        right: two(tray, at + 4),
-    }
-}
-
-// An atom, or the letter of a kind.
-fn name(d: Digest, kind: u8, left: usize) -> Digest
-    ensures { Fed d (name_of kind left) result }
-{
-    if kind == 0 {
-        return number(add(d, b'A'), left);
-    }
-    add(d, letter(kind))
-}
-
-// Formula f written out by its links. A link that is not to an earlier record stops.
-fn formula(d: Digest, tray: &[u8], f: usize) -> Digest
-    ensures { Fed d (formula_text tray.now f) result }
-{
-    if MOST_FORMULAS <= f {
-        return add(d, b'?');
-    }
-    let l = links_of(tray, f);
-    let named = name(d, l.kind, l.left);
-    if l.kind == 0 {
-        return named;
-    }
-    if f <= l.left {
-        return add(named, b'?');
-    }
-    let first = formula(add(named, b'('), tray, l.left);
-    if has_one(l.kind) {
-        return add(first, b')');
-    }
-    if f <= l.right {
-        return add(first, b'?');
-    }
-    add(formula(add(first, b','), tray, l.right), b')')
-}
-
-fn formula_or_comment(d: Digest, tray: &[u8], f: usize) -> Digest
-    ensures { Fed d (formula_or_comment tray.now f) result }
-{
-    if f == 65535 {
-        return add(d, b'#');
-    }
-    formula(d, tray, f)
-}
-
-// A byte as a number, and a space.
-fn small(d: Digest, tray: &[u8], i: usize) -> Digest
-    ensures { Fed d (decimal_of (get_or tray.now i 0) ++ (32 ∷ [])) result }
-{
-    add(number(d, wide(byte(tray, i))), b' ')
-}
-
-// The number of a node or none in two bytes, and what ends it.
-fn link(d: Digest, tray: &[u8], i: usize, end: u8) -> Digest
-    ensures { Fed d (number_or_none (two_at tray.now i) ++ (end ∷ [])) result }
-{
-    add(number_or_none(d, two(tray, i)), end)
-}
-
-// The line of the node whose record stands at a position.
-fn node_line(d: Digest, nodes: &[u8], formulas: &[u8], at: usize) -> Digest
-    ensures { Fed d (node_line nodes.now formulas.now at) result }
-{
-    if nodes.len() <= at {
-        return d;
-    }
-    let last = at + 8;
-    let parent = link(d, nodes, at, b' ');
-    let place = small(parent, nodes, at + 2);
-    let world = small(place, nodes, at + 3);
-    let written = formula_or_comment(world, formulas, two(nodes, at + 4));
-    let spawner = link(add(written, b' '), nodes, at + 6, b' ');
-    link(spawner, nodes, last, b'\n')
-}
-
-// The line of an edge, if the lowest bit is set.
-fn edge_line(d: Digest, u: usize, v: usize, bits: u32) -> Digest
-    ensures { Fed d (edge_line u v bits) result }
-{
-    if bits % 2 == 1 {
-        let from = add(number(d, u), b'>');
-        return add(number(from, v), b'\n');
-    }
-    d
-}
-
-// The lines of the edges from world u: bit v of its number says that u reaches v.
-fn row(d: Digest, u: usize, bits: u32) -> Digest
-    ensures { Fed d (edges_from u bits) result }
-{
-    let mut text = d;
-    let mut rest = bits;
-    let mut v: usize = 0;
-    while v < 32 {
-        text = edge_line(text, u, v, rest);
-        rest = rest / 2;
-        v += 1;
-    }
-    text
-}
-
-fn node_lines(nodes: &[u8], formulas: &[u8], identifiers: usize) -> Digest
-    ensures { result ≡ digest_of (node_lines nodes.now formulas.now identifiers) }
-{
-    let mut text = Digest {
-        first: 0,
-        second: 0,
-    };
-    let mut i: usize = 0;
-    while i < identifiers {
-        if MOST_IDENTIFIERS <= i {
-            return text;
+impl Links {
+    fn at(tray: &[u8], f: usize) -> Links
+        requires { f < most_formulas }
+        ensures { LinksAt tray.now f result.kind result.left result.right }
+    {
+        let at = RECORD_LENGTH * f;
+        Links {
+            kind: byte(tray, at),
+            left: two(tray, at + 2),
+            right: two(tray, at + 4),
         }
-        text = node_line(text, nodes, formulas, NODE_LENGTH * i);
-        i += 1;
     }
-    text
-}
-
-// The digest of a run that issued so many identifiers.
-pub fn of_trays(nodes: &[u8], formulas: &[u8], edges: &[u32], identifiers: usize) -> Digest
-    ensures { result ≡ digest_of (text_of nodes.now formulas.now edges.now identifiers) }
-{
-    let mut text = node_lines(nodes, formulas, identifiers);
-    let mut u: usize = 0;
-    while u < EDGE_TRAY_LENGTH {
-        if edges.len() <= u {
-            return text;
-        }
-        text = row(text, u, edges[u]);
-        u += 1;
-    }
-    text
 }

@@ -15,34 +15,29 @@ use std::env::FillError;
 use std::fs;
 use std::rt::{Env, Files};
 
+// Whether the program was started with fewer words.
+fn is_absent<E: Env>(env: &E, i: usize) -> bool {
+    matches!(env.arg(i, &mut []), Err(FillError::NotPresent))
+}
+
 // How many words the program was started with, its own name among them.
 fn word_count<E: Env>(env: &E) -> usize {
-    let mut count: usize = 0;
-    while count < usize::MAX {
-        match env.arg(count, &mut []) {
-            Err(FillError::NotPresent) => return count,
-            _ => count += 1,
-        }
-    }
-    count
+    (0..usize::MAX)
+        .position(|i| is_absent(env, i))
+        .unwrap_or(usize::MAX)
 }
 
 // Puts argument i at the start of a name, and returns its length, 0 where it has no room.
 fn put_argument<E: Env>(env: &E, i: usize, name: &mut [u8]) -> usize
     ensures { result ≤ length name.new }
 {
-    match env.arg(i, name) {
-        Ok(n) => n,
-        Err(_) => 0,
-    }
+    env.arg(i, name).unwrap_or(0)
 }
 
 // The file of a name, open for reading.
 fn open<F: Files>(files: &F, name: &[u8]) -> Option<F::File> {
-    match str::from_utf8(name) {
-        Ok(path) => fs::open(files, path).ok(),
-        Err(_) => None,
-    }
+    let path = str::from_utf8(name).ok()?;
+    fs::open(files, path).ok()
 }
 
 // The file that argument i names. A file that can't be read is a failure.
@@ -51,34 +46,14 @@ fn check_file<R: Print + Env + Files>(rt: &R, i: usize, tally: Tally) -> Tally {
     let n = put_argument(rt, i, &mut name);
     match open(rt, &name[..n]) {
         Some(mut file) => reading::read_file(rt, &mut file, &name[..n], tally),
-        None => {
-            let at = Tally {
-                line: 0,
-                cases: tally.cases,
-                failed: tally.failed,
-            };
-            reading::report(rt, &name[..n], at, b"can't be opened")
-        }
+        None => reading::report(rt, &name[..n], tally.at_start(), "can't be opened"),
     }
-}
-
-fn print<P: Print>(rt: &P, n: usize, text: &[u8]) {
-    reading::write_number(rt, n);
-    reading::write(rt, text);
 }
 
 fn main(rt: HostRuntime) {
-    let count = word_count(&rt);
-    let mut tally = Tally {
-        line: 0,
-        cases: 0,
-        failed: 0,
-    };
-    let mut i: usize = 1;
-    while i < count {
+    let mut tally = Tally::default();
+    for i in 1..word_count(&rt) {
         tally = check_file(&rt, i, tally);
-        i += 1;
     }
-    print(&rt, tally.cases, b" cases, ");
-    print(&rt, tally.failed, b" failed\n");
+    let _ = println!(rt; "{} cases, {} failed", tally.cases, tally.failed);
 }

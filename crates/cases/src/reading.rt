@@ -1,13 +1,25 @@
 // A file of vectors, line by line.
-ghost use Rattle.std.specs.Prelude.{◌≡◌, [], ◌∷◌, ◌≤◌, length};
-ghost use Rattle.cases.specs.Tally.{one_more, one_failed, judged, finished, Since};
-ghost use Rattle.cases.specs.File.{FileRead, Takes, Went};
+ghost use Rattle.std.specs.Prelude.{◌≡◌, [], ◌∷◌};
+ghost use Rattle.cases.specs.Tally.{one_more, one_line, one_case, one_failed, judged, finished, Since};
+ghost use Rattle.cases.specs.File.{FileRead, file_start, Takes, Went};
 
 use crate::compare::{Difference, compare_line};
+use arrayvec::ArrayVec;
+use std::fmt::Display;
+use std::io;
 use std::io::Read;
 
+// The longest line that is held whole.
+const LONGEST_LINE: usize = 4096;
+
+// So many reads are the most of a file.
+const MOST_READS: u64 = 1 << 40;
+
+// A line so far. What has no room is dropped, and the line is then not of the form.
+type Line = ArrayVec<u8, LONGEST_LINE>;
+
 // The line's number in its file, the cases so far and how many of them failed.
-#[derive(Clone, Copy)]
+#[derive(Clone, Copy, Debug, Default, PartialEq, Eq)]
 pub struct Tally {
     pub line: usize,
     pub cases: usize,
@@ -15,49 +27,72 @@ pub struct Tally {
 }
 
 // One more; a count never gets so large.
+#[tactic(auto, unfolding(crate::specs::Tally::one_more))]
 fn next(n: usize) -> usize
     ensures { result ≡ one_more n }
 {
-    if n < 1000000000 { n + 1 } else { n }
+    if n < 1_000_000_000 { n + 1 } else { n }
+}
+
+impl Tally {
+    // Before the first line of a file.
+    pub fn at_start(self) -> Tally
+        ensures { result ≡ file_start self }
+    {
+        Tally { line: 0, ..self }
+    }
+
+    #[tactic(auto, unfolding(crate::specs::Tally::one_line))]
+    fn with_line(self) -> Tally
+        ensures { result ≡ one_line self }
+    {
+        Tally {
+            line: next(self.line),
+            ..self
+        }
+    }
+
+    #[tactic(auto, unfolding(crate::specs::Tally::one_case))]
+    fn with_case(self) -> Tally
+        ensures { result ≡ one_case self }
+    {
+        Tally {
+            cases: next(self.cases),
+            ..self
+        }
+    }
+
+    #[tactic(auto, unfolding(crate::specs::Tally::one_failed))]
+    fn with_failure(self) -> Tally
+        ensures { result ≡ one_failed self }
+    {
+        Tally {
+            failed: next(self.failed),
+            ..self
+        }
+    }
 }
 
 pub fn write<P: Print>(rt: &P, text: &[u8]) {
     let _ = rt.write_all(text);
 }
 
-pub fn write_number<P: Print>(rt: &P, n: usize) {
-    let _ = rt.print(n);
-}
-
 // A failing line: the file's name, the line's number and what differs.
-pub fn report<P: Print>(rt: &P, name: &[u8], tally: Tally, what: &[u8]) -> Tally
+pub fn report<P: Print, D: Display + Drop>(rt: &P, name: &[u8], tally: Tally, what: D) -> Tally
     ensures { result ≡ one_failed tally }
 {
     write(rt, name);
-    write(rt, b":");
-    write_number(rt, tally.line);
-    write(rt, b" ");
-    write(rt, what);
-    write(rt, b"\n");
-    Tally {
-        line: tally.line,
-        cases: tally.cases,
-        failed: next(tally.failed),
-    }
+    let _ = println!(rt; ":{} {what}", tally.line);
+    tally.with_failure()
 }
 
-fn judge<P: Print>(rt: &P, name: &[u8], tally: Tally, difference: Difference) -> Tally
-    ensures { result ≡ judged difference tally }
+#[tactic(auto, unfolding(crate::specs::Tally::judged))]
+fn judge<P: Print>(rt: &P, name: &[u8], tally: Tally, compared: Result<(), Difference>) -> Tally
+    ensures { result ≡ judged compared tally }
 {
-    match difference {
-        Difference::Nothing => tally,
-        Difference::Form => report(rt, name, tally, b"form"),
-        Difference::Verdict => report(rt, name, tally, b"verdict"),
-        Difference::Identifiers => report(rt, name, tally, b"identifiers"),
-        Difference::Worlds => report(rt, name, tally, b"worlds"),
-        Difference::Steps => report(rt, name, tally, b"steps"),
-        Difference::Digest => report(rt, name, tally, b"digest"),
-        Difference::Trays => report(rt, name, tally, b"trays"),
+    match compared {
+        Ok(()) => tally,
+        Err(difference) => report(rt, name, tally, difference),
     }
 }
 
@@ -65,95 +100,52 @@ fn judge<P: Print>(rt: &P, name: &[u8], tally: Tally, difference: Difference) ->
 fn finish<P: Print>(rt: &P, name: &[u8], line: &[u8], tally: Tally) -> Tally
     ensures { result ≡ finished line.now tally }
 {
-    let at = Tally {
-        line: next(tally.line),
-        cases: tally.cases,
-        failed: tally.failed,
-    };
-    if line.len() == 0 {
+    let at = tally.with_line();
+    if line.is_empty() || line[0] == b'#' {
         return at;
     }
-    if line[0] == b'#' {
-        return at;
-    }
-    let counted = Tally {
-        line: at.line,
-        cases: next(at.cases),
-        failed: at.failed,
-    };
-    judge(rt, name, counted, compare_line(line))
+    judge(rt, name, at.with_case(), compare_line(line))
 }
 
-// The line so far, and the tally.
-#[derive(Clone, Copy)]
-struct Progress {
-    len: usize,
-    tally: Tally,
-}
-
-// One byte more. What has no room is dropped, and the line is then not of the form.
-fn feed<P: Print>(rt: &P, name: &[u8], line: &mut [u8], p: Progress, b: u8) -> Progress
-    ensures { p.len ≤ length line.old → Takes line.old p (b ∷ []) line.new result }
+// One byte more.
+fn feed<P: Print>(rt: &P, name: &[u8], line: &mut Line, tally: Tally, b: u8) -> Tally
+    ensures { Takes line.old.items tally (b ∷ []) line.new.items result }
 {
-    let len = p.len;
-    let tally = p.tally;
-    if line.len() < len {
-        return Progress { len: 0, tally };
-    }
     if b == b'\n' {
-        let after = finish(rt, name, &line[..len], tally);
-        return Progress {
-            len: 0,
-            tally: after,
-        };
+        let after = finish(rt, name, line.as_slice(), tally);
+        line.clear();
+        return after;
     }
-    if len < line.len() {
-        line[len] = b;
-        return Progress {
-            len: len + 1,
-            tally,
-        };
-    }
-    p
+    let _ = line.try_push(b);
+    tally
 }
 
-fn feed_all<P: Print>(rt: &P, name: &[u8], line: &mut [u8], p: Progress, part: &[u8]) -> Progress
-    ensures { p.len ≤ length line.old → Takes line.old p part.now line.new result }
+fn feed_all<P: Print>(rt: &P, name: &[u8], line: &mut Line, tally: Tally, part: &[u8]) -> Tally
+    ensures { Takes line.old.items tally part.now line.new.items result }
 {
-    let mut q = p;
-    let mut i: usize = 0;
-    while i < part.len() {
-        q = feed(rt, name, line, q, part[i]);
-        i += 1;
+    let mut after = tally;
+    for b in part {
+        after = feed(rt, name, line, after, *b);
     }
-    q
+    after
 }
 
-// What one more read gave.
-#[derive(Clone, Copy)]
-enum More {
-    Failed,
-    Ended,
-    Read { progress: Progress },
-}
-
+// One more read: the tally after it, or none at the end.
 fn read_more<P: Print, R: Read>(
     rt: &P,
     file: &mut R,
     name: &[u8],
-    line: &mut [u8],
-    p: Progress,
-) -> More
-    ensures { p.len ≤ length line.old → Went line.old p line.new result }
+    line: &mut Line,
+    tally: Tally,
+) -> io::Result<Option<Tally>>
+    ensures { Went line.old.items tally line.new.items result }
 {
-    let mut part = io::buffer();
-    match file.read(&mut part) {
-        Err(_) => More::Failed,
-        Ok(0) => More::Ended,
-        Ok(n) => More::Read {
-            progress: feed_all(rt, name, line, p, &part[..n]),
-        },
+    let mut part = [0u8; 4096];
+    let count = file.read(&mut part)?;
+    if count == 0 {
+        return Ok(None);
     }
+    Ok(Some(feed_all(rt, name, line, tally, &part[..count])))
 }
 
 // The file to its end, in at most 2^40 reads.
@@ -161,23 +153,14 @@ pub fn read_file<P: Print, R: Read>(rt: &P, file: &mut R, name: &[u8], tally: Ta
     ensures file_read { FileRead tally result }
     ensures since { Since 1 tally result }
 {
-    let mut line = [0u8; 4096];
-    let mut p = Progress {
-        len: 0,
-        tally: Tally {
-            line: 0,
-            cases: tally.cases,
-            failed: tally.failed,
-        },
-    };
-    let mut reads: u64 = 1099511627776;
-    while 0 < reads {
-        match read_more(rt, file, name, &mut line, p) {
-            More::Failed => return report(rt, name, p.tally, b"can't be read"),
-            More::Ended => return p.tally,
-            More::Read { progress } => p = progress,
+    let mut line = Line::new();
+    let mut at = tally.at_start();
+    for _ in 0..MOST_READS {
+        match read_more(rt, file, name, &mut line, at) {
+            Err(_) => return report(rt, name, at, "can't be read"),
+            Ok(None) => return at,
+            Ok(Some(after)) => at = after,
         }
-        reads -= 1;
     }
-    report(rt, name, p.tally, b"is too long")
+    report(rt, name, at, "is too long")
 }

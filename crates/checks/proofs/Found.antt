@@ -10,32 +10,16 @@ use Rattle.definition.specs.Limits.{record_length, most_records}
 use Rattle.definition.specs.Lists.{or_else, empty}
 use Rattle.definition.specs.Records.{decode}
 use Rattle.definition.specs.Checks.{Check, Lengths, sheet_checks, flag_checks, tray_checks, record_checks, mark_checks, checks, first_of, refused}
-use Rattle.definition.proofs.Basics.Lists.{true_false, find_append}
-use Rattle.definition.proofs.Run.Accepted.{Passed, none_passed, passed_both, sheet_passed}
-use Rattle.checks.specs.Checked.{is_refusal}
-
-pub or_first : (o p : Option Check) → is_refusal o ≡ true → o ≡ or_else o p
-or_first none p e = true_false (sym e)
-or_first (some c) p e = refl
-
-pub or_second : (o p : Option Check) → is_refusal o ≡ false → p ≡ or_else o p
-or_second none p e = refl
-or_second (some c) p e = true_false e
-
--- no check of a part applies where none is found
-pub part_passed : (cs : List Check) (o : Option Check) → o ≡ first_of cs → is_refusal o ≡ false → Passed cs
-part_passed cs none e h = none_passed cs (sym e)
-part_passed cs (some c) e h = true_false h
+use Rattle.definition.proofs.Basics.Lists.{find_append}
+use Rattle.definition.proofs.Run.Accepted.{none_passed, sheet_passed}
 
 -- ---- two parts joined: what is found in the one, or else in the other
-pub found_both : (cs ds : List Check) {o p : Option Check} → o ≡ first_of cs → p ≡ first_of ds → or_else o p ≡ first_of (cs ++ ds)
-found_both cs ds {o} {p} e d = ap (λ (q : Option Check). or_else q p) e ∙ ap (or_else (first_of cs)) d ∙ sym (find_append (λ (c : Check). c.applies) cs ds)
+module _ (cs ds : List Check) where
+  pub found_before : {k : Check} → some k ≡ first_of cs → some k ≡ first_of (cs ++ ds)
+  found_before e = ap (λ (q : Option Check). or_else q (first_of ds)) e ∙ sym (find_append (λ (c : Check). c.applies) cs ds)
 
-pub found_before : (cs ds : List Check) {o : Option Check} → o ≡ first_of cs → is_refusal o ≡ true → o ≡ first_of (cs ++ ds)
-found_before cs ds {o} e h = or_first o (first_of ds) h ∙ found_both cs ds e refl
-
-pub found_after : (cs ds : List Check) {o : Option Check} → o ≡ first_of cs → is_refusal o ≡ false → first_of ds ≡ first_of (cs ++ ds)
-found_after cs ds {o} e h = or_second o (first_of ds) h ∙ found_both cs ds e refl
+  pub found_after : none ≡ first_of cs → first_of ds ≡ first_of (cs ++ ds)
+  found_after e = ap (λ (q : Option Check). or_else q (first_of ds)) e ∙ sym (find_append (λ (c : Check). c.applies) cs ds)
 
 -- a list is empty if and only if its length is 0
 pub empty_none : (l : List ℕ) (n : ℕ) → n ≡ length l → n ≡ 0 → empty l ≡ true
@@ -46,35 +30,46 @@ pub empty_some : (l : List ℕ) (n : ℕ) → n ≡ length l → (n ≡ 0 → �
 empty_some [] n e h = absurd (h e)
 empty_some (x ∷ l) n e h = refl
 
--- ---- the whole: what is checked before any record, the records, the marks
+-- ---- the whole: each part in its order, where none before it applies
 module _ (bytes : List ℕ) (flags : ℕ) (lent : Lengths) where
-  abbrev before : List Check
-  before = sheet_checks (length bytes) ++ (flag_checks flags ++ tray_checks lent)
+  abbrev sheet : List Check
+  sheet = sheet_checks (length bytes)
 
-  abbrev later : List Check
-  later = record_checks [] (decode bytes) ++ mark_checks (decode bytes)
+  abbrev records : List Check
+  records = record_checks [] (decode bytes)
 
-  in_order : first_of (before ++ later) ≡ refused bytes flags lent
+  abbrev marked : List Check
+  marked = mark_checks (decode bytes)
+
+  pub refused_sheet : {k : Check} → some k ≡ first_of sheet → some k ≡ refused bytes flags lent
   unfolding refused checks
-  in_order = refl
+  refused_sheet = found_before sheet (flag_checks flags ++ (tray_checks lent ++ (records ++ marked)))
 
-  module _ {o : Option Check} (e : o ≡ first_of before) where
-    pub refused_before : is_refusal o ≡ true → o ≡ refused bytes flags lent
-    refused_before t = found_before before later e t ∙ in_order
+  module _ (s : none ≡ first_of sheet) where
+    -- no more records than the sizes have room for
+    pub few_records : length bytes / record_length ≤ most_records
+    few_records = sheet_passed (length bytes) (none_passed sheet (sym s))
 
-    module _ (t : is_refusal o ≡ false) where
-      -- no more records than the sizes have room for
-      pub few_records : length bytes / record_length ≤ most_records
-      few_records =
-          let (sheet, others) = passed_both (sheet_checks (length bytes)) (flag_checks flags ++ tray_checks lent) (part_passed before o e t) in
-          sheet_passed (length bytes) sheet
+    past_sheet : first_of (flag_checks flags ++ (tray_checks lent ++ (records ++ marked))) ≡ refused bytes flags lent
+    unfolding refused checks
+    past_sheet = found_after sheet (flag_checks flags ++ (tray_checks lent ++ (records ++ marked))) s
 
-      past_before : first_of later ≡ refused bytes flags lent
-      past_before = found_after before later e t ∙ in_order
+    pub refused_flags : {k : Check} → some k ≡ first_of (flag_checks flags) → some k ≡ refused bytes flags lent
+    refused_flags e = found_before (flag_checks flags) (tray_checks lent ++ (records ++ marked)) e ∙ past_sheet
 
-      module _ {p : Option Check} (d : p ≡ first_of (record_checks [] (decode bytes))) where
-        pub refused_record : is_refusal p ≡ true → p ≡ refused bytes flags lent
-        refused_record u = found_before (record_checks [] (decode bytes)) (mark_checks (decode bytes)) d u ∙ past_before
+    module _ (f : none ≡ first_of (flag_checks flags)) where
+      past_flags : first_of (tray_checks lent ++ (records ++ marked)) ≡ refused bytes flags lent
+      past_flags = found_after (flag_checks flags) (tray_checks lent ++ (records ++ marked)) f ∙ past_sheet
 
-        pub refused_marks : is_refusal p ≡ false → {q : Option Check} → q ≡ first_of (mark_checks (decode bytes)) → q ≡ refused bytes flags lent
-        refused_marks u g = g ∙ found_after (record_checks [] (decode bytes)) (mark_checks (decode bytes)) d u ∙ past_before
+      pub refused_trays : {k : Check} → some k ≡ first_of (tray_checks lent) → some k ≡ refused bytes flags lent
+      refused_trays e = found_before (tray_checks lent) (records ++ marked) e ∙ past_flags
+
+      module _ (t : none ≡ first_of (tray_checks lent)) where
+        past_trays : first_of (records ++ marked) ≡ refused bytes flags lent
+        past_trays = found_after (tray_checks lent) (records ++ marked) t ∙ past_flags
+
+        pub refused_record : {k : Check} → some k ≡ first_of records → some k ≡ refused bytes flags lent
+        refused_record e = found_before records marked e ∙ past_trays
+
+        pub refused_marks : none ≡ first_of records → {o : Option Check} → o ≡ first_of marked → o ≡ refused bytes flags lent
+        refused_marks r e = e ∙ found_after records marked r ∙ past_trays

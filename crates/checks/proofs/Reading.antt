@@ -1,9 +1,8 @@
 -- The loops over the records of a branch.
 use Prim.Native.Nat.{ℕ, suc, ◌+◌, ◌<◌, ◌≤◌, ◌/◌}
 use mathlib.Core.Path.{◌≡◌, refl, sym, ap, ◌∙◌}
-use mathlib.Core.Bool.{true, false}
 use mathlib.Core.List.{List, [], ◌∷◌, ◌++◌}
-use mathlib.Core.Option.{Option, none}
+use mathlib.Core.Option.{none, some}
 use mathlib.Core.Logic.{◌⊎◌, inl, inr}
 use native.Mathlib.Omega.{arith}
 use native.Mathlib.Numerals.{add-one}
@@ -16,10 +15,10 @@ use Rattle.definition.specs.Lists.{below, padded}
 use Rattle.definition.specs.Records.{Rec, record_at, decode, marks_from, marks}
 use Rattle.definition.specs.Checks.{Check, expanded_size, checks_of_record, record_checks, first_of}
 use Rattle.definition.proofs.Basics.Lists.{from_get}
-use Rattle.definition.proofs.Run.Accepted.{length_decode, small}
+use Rattle.definition.proofs.Run.Accepted.{none_passed, length_decode, small}
 use Rattle.checks.specs.declared.Record.{Record}
-use Rattle.checks.specs.Checked.{record_of, is_refusal}
-use Rattle.checks.proofs.Found.{part_passed, found_before, found_after}
+use Rattle.checks.specs.Checked.{record_of}
+use Rattle.checks.proofs.Found.{found_before, found_after}
 
 -- ---- the records that are left
 module _ (bytes : List ℕ) (i : ℕ) where
@@ -35,8 +34,8 @@ module _ (bytes : List ℕ) (i : ℕ) where
   record_none h = drop_of_length-le (decode bytes) {i = i} (omega (arith, length_decode bytes))
 
 -- a record that passed is no larger than the limit
-pub record_small : (x : Record) (i size : ℕ) (o : Option Check) → o ≡ first_of (checks_of_record i size (record_of x)) → is_refusal o ≡ false → size ≤ most_size
-record_small x i size o e t = small i size (record_of x) (part_passed (checks_of_record i size (record_of x)) o e t)
+pub record_small : (x : Record) (i size : ℕ) → none ≡ first_of (checks_of_record i size (record_of x)) → size ≤ most_size
+record_small x i size e = small i size (record_of x) (none_passed (checks_of_record i size (record_of x)) (sym e))
 
 -- ---- the checks of the records before i do not apply, and the array has their sizes
 pub record Reading (bytes a : List ℕ) (i : ℕ) : Type 0 where
@@ -49,14 +48,13 @@ pub reading_start : (bytes : List ℕ) → Reading bytes (replicate most_records
 unfolding padded
 reading_start bytes = record { sizes = []; count = refl; array = refl; left = refl }
 
-pub reading_end : {bytes a : List ℕ} {i : ℕ} {o : Option Check} → Reading bytes a i → length bytes / record_length ≤ i → o ≡ none → o ≡ first_of (record_checks [] (decode bytes))
+pub reading_end : {bytes a : List ℕ} {i : ℕ} → Reading bytes a i → length bytes / record_length ≤ i → none ≡ first_of (record_checks [] (decode bytes))
 unfolding record_checks
-reading_end {bytes} {a} {i} p h e = e ∙ ap (λ (rs : List Rec). first_of (record_checks p.sizes rs)) (sym (record_none bytes i h)) ∙ p.left
+reading_end {bytes} {a} {i} p h = ap (λ (rs : List Rec). first_of (record_checks p.sizes rs)) (sym (record_none bytes i h)) ∙ p.left
 
-module _ {bytes a : List ℕ} {i : ℕ} (p : Reading bytes a i) (h : i < length bytes / record_length) (g : i < most_records) (x : Record) (size : ℕ) (o : Option Check)
+module _ {bytes a : List ℕ} {i : ℕ} (p : Reading bytes a i) (h : i < length bytes / record_length) (g : i < most_records) (x : Record) (size : ℕ)
     (ex : i < most_records → record_of x ≡ record_at bytes i)
-    (es : (s : List ℕ) → a ≡ padded most_records s → length s ≤ most_records → size ≡ expanded_size s (record_of x))
-    (eo : o ≡ first_of (checks_of_record i size (record_of x))) where
+    (es : (s : List ℕ) → a ≡ padded most_records s → length s ≤ most_records → size ≡ expanded_size s (record_of x)) where
   known : size ≡ expanded_size p.sizes (record_of x)
   known = es p.sizes p.array (omega (arith, p.count))
 
@@ -72,25 +70,22 @@ module _ {bytes a : List ℕ} {i : ℕ} (p : Reading bytes a i) (h : i < length 
       ∙ ap (λ (rs : List Rec). first_of (record_checks p.sizes rs)) (ap (λ (r : Rec). r ∷ drop (suc i) (decode bytes)) (ex g) ∙ sym (record_next bytes i h))
       ∙ p.left
 
-  pub reading_refused : is_refusal o ≡ true → o ≡ first_of (record_checks [] (decode bytes))
-  reading_refused t = found_before (checks_of_record i size (record_of x)) later eo t ∙ left_now
+  pub reading_refused : {k : Check} → some k ≡ first_of (checks_of_record i size (record_of x)) → some k ≡ first_of (record_checks [] (decode bytes))
+  reading_refused e = found_before (checks_of_record i size (record_of x)) later e ∙ left_now
 
-  pub reading_next : is_refusal o ≡ false → Reading bytes (set a i size) (i + 1)
-  reading_next t =
+  pub reading_next : none ≡ first_of (checks_of_record i size (record_of x)) → Reading bytes (set a i size) (i + 1)
+  reading_next e =
       let s = p.sizes in
       record {
         sizes = s ++ (size ∷ []);
         count = omega (arith, length-append s (size ∷ []), p.count);
         array = rw (p.array, ← p.count) (snoc_padded most_records s size (omega (arith, p.count)));
-        left = rw add-one (found_after (checks_of_record i size (record_of x)) later eo t ∙ left_now);
+        left = rw add-one (found_after (checks_of_record i size (record_of x)) later e ∙ left_now);
       }
 
 -- ---- n of the records before i are marked
 pub record Counting (bytes : List ℕ) (n i : ℕ) : Type 0 where
   pub left : n + length (marks_from i (drop i (decode bytes))) ≡ length (marks (decode bytes))
-
-pub counting_start : (bytes : List ℕ) → Counting bytes 0 0
-counting_start bytes = record { left = omega arith }
 
 pub counting_end : {bytes : List ℕ} {n i : ℕ} → Counting bytes n i → length bytes / record_length ≤ i → n ≡ length (marks (decode bytes))
 unfolding marks_from

@@ -6,11 +6,8 @@ use mathlib.Core.List.{List, [], ◌∷◌, ◌++◌, map}
 use mathlib.Core.Option.{Option}
 use mathlib.Core.Logic.{◌≢◌}
 use native.Mathlib.Omega.{arith}
-use lib.Dec.{eqb}
-use borrow.Author.Tests.{ne_eqb}
 use lib.ListN.{length}
 use Rattle.definition.specs.Limits.{most_identifiers}
-use Rattle.arrays.specs.Listed.{Listed, listed, too_long}
 use Rattle.definition.specs.Lists.{all, filter, empty, up_from}
 use Rattle.definition.specs.Records.{Rec, nobody}
 use Rattle.definition.specs.Tree.{Node, Place, Root, Left, Middle, Right, Unplaced, node_at, is_leaf, leaves}
@@ -21,7 +18,8 @@ use Rattle.definition.specs.TreeShape.{spots, placed, In, Treed}
 use Rattle.definition.proofs.Run.TreeKept.{marks_keep}
 use Rattle.definition.specs.Shortcuts.{pair_of, bare_at, pair_at, closed_at, new_pairs, NoPairAbove, CheckedAt}
 use Rattle.definition.proofs.Engine.NewLeaves.{above_marked, pair_at_marked, closed_at_marked, open_new, since_marks, since_open}
-use Rattle.tree.specs.Lay.{Lays, place_code, Held}
+use Rattle.tree.specs.declared.ProofTree.{ProofTree}
+use Rattle.tree.specs.Lay.{Laid, place_code, Held, HasNodes}
 use Rattle.tree.proofs.Nodes.{held_ok, held_lays, held_as, held_long}
 
 -- ---- the path of one node
@@ -41,23 +39,23 @@ code_loose Middle e h = absurd (omega (arith, e, h))
 code_loose Right e h = absurd (omega (arith, e, h))
 code_loose Unplaced e h = refl
 
-module _ (rs : List Rec) (t : List Node) (x : ℕ) {len : ℕ} {a : List ℕ} (h : Held t len a) where
-  not_bare : bare_at t x ≡ false → Held (mark t (pair_at rs t x)) len a × (true ≡ closed_at rs t x)
+module _ (rs : List Rec) (t : List Node) (x : ℕ) {u : ProofTree} (h : HasNodes t u) where
+  not_bare : bare_at t x ≡ false → HasNodes (mark t (pair_at rs t x)) u × (true ≡ closed_at rs t x)
   unfolding mark
   not_bare e = rw e (h, refl)
 
-  pub path_loose : {v : ℕ} → v ≡ place_code (node_at t x).place → v ≡ 65535 → Held (mark t (pair_at rs t x)) len a × (true ≡ closed_at rs t x)
+  pub path_loose : {v : ℕ} → v ≡ place_code (node_at t x).place → v ≡ 65535 → HasNodes (mark t (pair_at rs t x)) u × (true ≡ closed_at rs t x)
   path_loose e q = not_bare (ap (λ (b : Bool). b && is_leaf (node_at t x).children) (code_loose (node_at t x).place e q))
 
-  pub path_inner : {b : Bool} → b ≡ is_leaf (node_at t x).children → b ≡ false → Held (mark t (pair_at rs t x)) len a × (true ≡ closed_at rs t x)
+  pub path_inner : {b : Bool} → b ≡ is_leaf (node_at t x).children → b ≡ false → HasNodes (mark t (pair_at rs t x)) u × (true ≡ closed_at rs t x)
   path_inner e q = not_bare (rw (sym e ∙ q) (and-false (placed (node_at t x).place)))
 
-pub path_marked : (rs : List Rec) (t : List Node) (x : ℕ) (o : Option Pair) {len v : ℕ} {a z : List ℕ} {b r : Bool} → Held t len a → v ≡ place_code (node_at t x).place → v ≢ 65535 →
-    b ≡ is_leaf (node_at t x).children → b ≡ true → (In (spots t) x → o ≡ pair_of rs t x) → Held (mark t o) len z → r ≡ is_pair o → Held (mark t (pair_at rs t x)) len z × (r ≡ closed_at rs t x)
-path_marked rs t x o {len} {z = z} h e q d leaf found marked told =
+pub path_marked : (rs : List Rec) (t : List Node) (x : ℕ) (o : Option Pair) {v : ℕ} {z : ProofTree} {b r : Bool} → v ≡ place_code (node_at t x).place → v ≢ 65535 →
+    b ≡ is_leaf (node_at t x).children → b ≡ true → (In (spots t) x → o ≡ pair_of rs t x) → HasNodes (mark t o) z → r ≡ is_pair o → HasNodes (mark t (pair_at rs t x)) z × (r ≡ closed_at rs t x)
+path_marked rs t x o {z = z} e q d leaf found marked told =
     let i = code_placed (node_at t x).place e q in
     let bare : bare_at t x ≡ true = rw i (sym d ∙ leaf) in
-    rw bare (subst (λ (p : Option Pair). Held (mark t p) len z) (found i) marked, told ∙ ap is_pair (found i))
+    rw bare (subst (λ (p : Option Pair). HasNodes (mark t p) z) (found i) marked, told ∙ ap is_pair (found i))
 
 -- ---- the loop of `mark_paths`: the identifiers below k are done
 up_from_snoc : (n i : ℕ) → up_from (suc n) i ≡ up_from n i ++ ((i + n) ∷ [])
@@ -77,22 +75,22 @@ map_snoc : {A B : Type 0} (f : A → B) (xs : List A) (x : A) → map f (xs ++ (
 map_snoc f [] x = refl
 map_snoc {B = B} f (y ∷ xs) x = ap (λ (l : List B). f y ∷ l) (map_snoc f xs x)
 
-pub record Marking (rs : List Rec) (t : List Node) (old len : ℕ) (a : List ℕ) (every : Bool) (k : ℕ) : Type 0 where
-  pub nodes : Held (mark_all t (new_pairs rs t old (k - old))) len a
+pub record Marking (rs : List Rec) (t : List Node) (old : ℕ) (u : ProofTree) (every : Bool) (k : ℕ) : Type 0 where
+  pub nodes : HasNodes (mark_all t (new_pairs rs t old (k - old))) u
   pub each : every ≡ all (closed_at rs t) (up_from (k - old) old)
 
-pub marking_start : (rs : List Rec) {t : List Node} {old len : ℕ} {a : List ℕ} → Held t len a → Marking rs t old len a true old
+pub marking_start : (rs : List Rec) {t : List Node} {old : ℕ} {u : ProofTree} → HasNodes t u → Marking rs t old u true old
 unfolding mark_all
-marking_start rs {t} {old} {len} {a} h =
+marking_start rs {t} {old} h =
     let z : old - old ≡ 0 = omega arith in
     record { nodes = rw z h; each = rw z refl }
 
-module _ {rs : List Rec} {t : List Node} {old len : ℕ} {a : List ℕ} {every : Bool} {k : ℕ} (m : Marking rs t old len a every k) where
+module _ {rs : List Rec} {t : List Node} {old : ℕ} {u : ProofTree} {every : Bool} {k : ℕ} (m : Marking rs t old u every k) where
   -- what is done at node x
-  abbrev Marks : ℕ → Bool → List ℕ → Type 0
-  Marks x b z = (ms : List Node) → Held ms len a → NoPairAbove rs ms old → old ≤ x → Held (mark ms (pair_at rs ms x)) len z × (b ≡ closed_at rs ms x)
+  abbrev Marks : ℕ → Bool → ProofTree → Type 0
+  Marks x b z = (ms : List Node) → HasNodes ms u → NoPairAbove rs ms old → old ≤ x → HasNodes (mark ms (pair_at rs ms x)) z × (b ≡ closed_at rs ms x)
 
-  pub marking_next : {x : ℕ} {b now : Bool} {z : List ℕ} → NoPairAbove rs t old → old ≤ k → x ≡ k → Marks x b z → now ≡ (every && b) → Marking rs t old len z now (k + 1)
+  pub marking_next : {x : ℕ} {b now : Bool} {z : ProofTree} → NoPairAbove rs t old → old ≤ k → x ≡ k → Marks x b z → now ≡ (every && b) → Marking rs t old z now (k + 1)
   marking_next {x} {b} {now} {z} o low e f q =
       let ps = new_pairs rs t old (k - old) in
       let v = mark_all t ps in
@@ -108,40 +106,31 @@ module _ {rs : List Rec} {t : List Node} {old len : ℕ} {a : List ℕ} {every :
             ∙ sym (ap (all (closed_at rs t)) ids ∙ all_snoc (closed_at rs t) (up_from (k - old) old) k);
       }
 
-  pub marking_end : k - old ≡ len - old → Held (mark_all t (new_pairs rs t old (len - old))) len a × (every ≡ all (closed_at rs t) (up_from (len - old) old))
-  marking_end e = rw (← e) (m.nodes, m.each)
-
 -- ---- the whole check
 -- too many nodes stay too many
 pub marked_full : {ns : List Node} {len : ℕ} {a : List ℕ} (ps : List (Option Pair)) → Held ns len a → most_identifiers < len → Held (mark_all ns ps) len a
 marked_full {ns} ps p h = held_long (mark_all ns ps) p h (omega (arith, length_marks ps ns))
 
-pub empty_listed : (l : List ℕ) {n : ℕ} {a : List ℕ} → Listed l n a → eqb n 0 ≡ empty l
-empty_listed [] (listed b e q) = rw (← e) refl
-empty_listed (x ∷ l) {n = n} (listed b e q) = ne_eqb n 0 (λ z. omega (arith, e, z))
-empty_listed [] (too_long b e) = absurd (omega arith)
-empty_listed (x ∷ l) {n = n} (too_long b e) = ne_eqb n 0 (λ z. omega (arith, e, z))
-
-module _ (rs : List Rec) (t : List Node) {old len : ℕ} {a z : List ℕ} {every : Bool} (s : CheckedAt rs t old) (h : Held t len a) (few : len ≤ most_identifiers)
-    (m : Held (mark_all t (new_pairs rs t old (len - old))) len z × (every ≡ all (closed_at rs t) (up_from (len - old) old))) where
+module _ (rs : List Rec) (t : List Node) {old : ℕ} {y z : ProofTree} {every : Bool} (s : CheckedAt rs t old) (h : HasNodes t y) (few : y.len ≤ most_identifiers) (kept : z.len ≡ y.len)
+    (m : HasNodes (mark_all t (new_pairs rs t old (y.len - old))) z × (every ≡ all (closed_at rs t) (up_from (y.len - old) old))) where
   abbrev u : List Node
   u = mark_all t (pairs rs t (leaves t))
 
-  size : length t ≡ len
+  size : length t ≡ y.len
   size = (held_ok h few).0
 
-  marked : Held u len z
+  marked : HasNodes u z
   marked = held_as u (ap (λ (n : ℕ). mark_all t (new_pairs rs t old (n - old))) (sym size) ∙ since_marks rs t old s) m.0
 
-  pub checked_still : len ≤ old → Held u len z × (len ≤ most_identifiers → false ≡ all is_pair (pairs rs t (leaves t)))
-  checked_still l = (marked, λ _. sym (s.still (omega (arith, size, l))))
+  pub checked_still : {r : Bool} → r ≡ false → y.len ≤ old → HasNodes u z × (y.len ≤ most_identifiers → r ≡ all is_pair (pairs rs t (leaves t)))
+  checked_still e l = (marked, λ _. e ∙ sym (s.still (omega (arith, size, l))))
 
-  pub checked_open : every ≡ false → Held u len z × (len ≤ most_identifiers → false ≡ all is_pair (pairs rs t (leaves t)))
-  checked_open e = (marked, λ _. sym (open_new rs t s.over.treed (len - old) old (sym m.1 ∙ e)))
+  pub checked_open : {r : Bool} → r ≡ false → every ≡ false → HasNodes u z × (y.len ≤ most_identifiers → r ≡ all is_pair (pairs rs t (leaves t)))
+  checked_open o e = (marked, λ _. o ∙ sym (open_new rs t s.over.treed (y.len - old) old (sym m.1 ∙ e)))
 
-  pub checked_closed : {r : Bool} → ((ns : List Node) → Treed ns → length ns ≡ len → Lays ns z → r ≡ empty (filter (takes ns 0) (leaves ns))) →
-      Held u len z × (len ≤ most_identifiers → r ≡ all is_pair (pairs rs t (leaves t)))
+  pub checked_closed : {r : Bool} → ((ns : List Node) → Treed ns → length ns ≡ z.len → Laid ns z → r ≡ empty (filter (takes ns 0) (leaves ns))) →
+      HasNodes u z × (y.len ≤ most_identifiers → r ≡ all is_pair (pairs rs t (leaves t)))
   checked_closed f =
-      let k = held_lays marked few in
+      let k = held_lays marked (omega arith) in
       let small : length t ≤ nobody = omega (arith, size, few) in
-      (marked, λ _. f u ((marks_keep (pairs rs t (leaves t)) t).treed s.over.treed (omega (arith, k.fits))) (held_ok marked few).0 k ∙ since_open rs t old s small)
+      (marked, λ _. f u ((marks_keep (pairs rs t (leaves t)) t).treed s.over.treed (omega (arith, k.fits))) (held_ok marked (omega arith)).0 k ∙ since_open rs t old s small)

@@ -21,9 +21,12 @@ use Rattle.definition.proofs.Tree.Shape.{depth_low}
 use Rattle.definition.specs.Shortcuts.{earlier, partner, pair_of, NoPairAbove}
 use Rattle.definition.proofs.Paths.Pairs.{path_nobody, pair_below}
 use Rattle.tree.proofs.Paths.{up_nobody, climb_none, climb_next, climb_end}
+use Rattle.std.specs.Prelude as Rust
+use Rattle.std.specs.Option.{is_some}
 use Rattle.semantics.specs.declared.Claim.{Claim}
 use Rattle.semantics.specs.Literal.{atoms_in, Claims}
-use Rattle.contradictions.specs.Found.{known}
+use Rattle.contradictions.specs.declared.Contradiction.{Contradiction}
+use Rattle.contradictions.specs.Found.{found}
 
 -- ---- the way up
 -- what is above x
@@ -43,7 +46,7 @@ up_tail t (suc d) x h = ⊎_elim (λ e. none_above e) (λ e. rw e (ap (λ (k : �
 
 -- ---- two nodes
 module _ (rs : List Rec) (t : List Node) (x y : ℕ) {v w : ℕ} {b : Bool} (ev : v ≡ (node_at t x).world) (ew : w ≡ (node_at t y).world) (e : b ≡ eqb v w) where
-  pub other_world : b ≡ false → false ≡ are_nodes_contradictory rs t x y
+  pub other_world : b ≡ false → b ≡ are_nodes_contradictory rs t x y
   unfolding are_nodes_contradictory
   other_world h = rw (← ev, ← ew, ← e, h) refl
 
@@ -69,45 +72,45 @@ find_snoc p (x ∷ xs) y = go (p x) (find_snoc p xs y)
     go true e = refl
     go false e = e
 
-hit_or : (o : Option ℕ) (b : Bool) (y last : ℕ) → is_nobody y ≡ false → or_else (or_else o (cond b (some y) none)) (known last) ≡ or_else o (known (cond b y last))
-hit_or (some x) b y last h = refl
-hit_or none true y last h = rw h refl
-hit_or none false y last h = refl
-
 module _ (rs : List Rec) (t : List Node) (x : ℕ) where
+  hit_or : (o : Option ℕ) (b : Bool) (y : ℕ) (last : Option Pair) → or_else (map (pair x) (or_else o (cond b (some y) none))) last ≡ or_else (map (pair x) o) (cond b (some (pair x y)) last)
+  hit_or (some z) b y last = refl
+  hit_or none true y last = refl
+  hit_or none false y last = refl
+
   abbrev against : ℕ → Bool
   against = are_nodes_contradictory rs t x
 
-  abbrev sought : ℕ → List ℕ → Option ℕ
-  sought last xs = or_else (find against (reverse xs)) (known last)
+  abbrev sought : Option Pair → List ℕ → Option Pair
+  sought last xs = or_else (map (pair x) (find against (reverse xs))) last
 
-  pub record Seeking (len cur last k : ℕ) : Type 0 where
-    pub rest : sought last (upward (len - k) t cur) ≡ partner rs t x
+  pub record Seeking (len cur : ℕ) (last : Option Pair) (k : ℕ) : Type 0 where
+    pub rest : sought last (upward (len - k) t cur) ≡ map (pair x) (partner rs t x)
 
-  pub seeking_start : (len cur last k : ℕ) → length t ≡ len → length t ≤ most_identifiers → cur ≡ (node_at t x).parent → last ≡ nobody → k ≡ 1 → Seeking len cur last k
+  pub seeking_start : (len cur : ℕ) → length t ≡ len → length t ≤ most_identifiers → cur ≡ (node_at t x).parent → Seeking len cur none 1
   unfolding partner earlier path
-  seeking_start len cur last k e h c l one =
+  seeking_start len cur e h c =
       record {
         rest =
-            rw (l, one, c) (else_none (find against (reverse (upward (len - 1) t (node_at t x).parent)))
-            ∙ ap (λ (xs : List ℕ). find against (reverse xs)) (ap (λ (n : ℕ). upward (n - 1) t (node_at t x).parent) (sym e) ∙ sym (up_tail t (length t) x h)));
+            rw c (else_none (map (pair x) (find against (reverse (upward (len - 1) t (node_at t x).parent))))
+            ∙ ap (λ (xs : List ℕ). map (pair x) (find against (reverse xs))) (ap (λ (n : ℕ). upward (n - 1) t (node_at t x).parent) (sym e) ∙ sym (up_tail t (length t) x h)));
       }
 
-  module _ {len cur last k : ℕ} (s : Seeking len cur last k) where
-    pub seeking_none : {b : Bool} → b ≡ is_nobody cur → b ≡ true → map (pair x) (known last) ≡ map (pair x) (partner rs t x)
-    seeking_none e h = ap (map (pair x)) (climb_none t (sought last) len k cur s.rest e h)
+  module _ {len cur k : ℕ} {last : Option Pair} (s : Seeking len cur last k) where
+    pub seeking_none : {b : Bool} → b ≡ is_nobody cur → b ≡ true → last ≡ map (pair x) (partner rs t x)
+    seeking_none e h = climb_none t (sought last) len k cur s.rest e h
 
-    pub seeking_end : len ≤ k → map (pair x) (known last) ≡ map (pair x) (partner rs t x)
-    seeking_end h = ap (map (pair x)) (climb_end t (sought last) len k cur s.rest h)
+    pub seeking_end : len ≤ k → last ≡ map (pair x) (partner rs t x)
+    seeking_end h = climb_end t (sought last) len k cur s.rest h
 
-    pub seeking_next : {b hit : Bool} (up now : ℕ) → k < len → b ≡ is_nobody cur → b ≡ false → hit ≡ against cur → now ≡ cond hit cur last → up ≡ (node_at t cur).parent → Seeking len up now (k + 1)
-    seeking_next {b} {hit} up now h e node q z u =
+    pub seeking_next : {b hit : Bool} {now : Option Pair} (up : ℕ) → k < len → b ≡ is_nobody cur → b ≡ false → hit ≡ against cur → now ≡ cond hit (some (pair x cur)) last → up ≡ (node_at t cur).parent → Seeking len up now (k + 1)
+    seeking_next {b} {hit} {now} up h e node q z u =
         let more = upward (len - (k + 1)) t up in
         record {
           rest =
-              rw z (sym (hit_or (find against (reverse more)) hit cur last (sym e ∙ node))
-              ∙ ap (λ (c : Bool). or_else (or_else (find against (reverse more)) (cond c (some cur) none)) (known last)) q
-              ∙ ap (λ (o : Option ℕ). or_else o (known last)) (sym (find_snoc against (reverse more) cur) ∙ ap (find against) (sym (reverse-append (cur ∷ []) more)))
+              rw z (sym (hit_or (find against (reverse more)) hit cur last)
+              ∙ ap (λ (c : Bool). or_else (map (pair x) (or_else (find against (reverse more)) (cond c (some cur) none))) last) q
+              ∙ ap (λ (o : Option ℕ). or_else (map (pair x) o) last) (sym (find_snoc against (reverse more) cur) ∙ ap (find against) (sym (reverse-append (cur ∷ []) more)))
               ∙ climb_next t (sought last) len k cur s.rest h e node up u);
         }
 
@@ -133,6 +136,12 @@ module _ (rs : List Rec) (t : List Node) (x : ℕ) where
       ap (map (pair x)) (sym (nothing_found (λ y.
       let q = formula_of rs (node_at t y).formula in
       rw ((no_atoms (said rs p) s (denied rs q)).0, (no_atoms (denied rs p) d (said rs q)).1) (and-false (eqb (node_at t x).world (node_at t y).world))) (earlier t x)))
+
+-- ---- a pair, if one was found
+pub some_pair : (o : Rust.Option Contradiction) → is_some o ≡ is_pair (found o)
+unfolding is_pair
+some_pair Rust.None = refl
+some_pair (Rust.Some c) = refl
 
 -- ---- the loop of `get_contradictory_node_ids`: the pair of the leaf is that of cur, which is in the tree or its root's parent
 pub record Searching (rs : List Rec) (t : List Node) (old leaf cur len k : ℕ) : Type 0 where

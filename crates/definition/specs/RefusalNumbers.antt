@@ -1,4 +1,4 @@
--- The refusals' numbers, each once, with the paper's words. Code has the same numbers, under the same names, in crates/limits/src.
+-- The refusals' numbers, each once, with the paper's words. Code has the same numbers, under the same names, in crates/refusal/src.
 use Rattle.std.specs.Prelude.{ℕ}
 
 -- "torn: length not a multiple of 6"

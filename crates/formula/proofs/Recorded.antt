@@ -50,10 +50,6 @@ read_at {rs} {n} {a} i j (recorded b e q) h g l =
 read_at i j (too_many b e) h g l = absurd (omega arith)
 
 -- ---- pushes
-pub push_over : {rs : List Rec} {n : ℕ} {a b : List ℕ} (x : Rec) → Recorded rs n a → most_formulas ≤ n → Recorded (rs ++ (x ∷ [])) (suc most_formulas) b
-push_over {rs} x (recorded b e q) h = too_many (omega arith) (omega (arith, length-append rs (x ∷ [])))
-push_over {rs} x (too_many b e) h = too_many (omega arith) (omega (arith, length-append rs (x ∷ [])))
-
 pub push_at : {rs : List Rec} {n : ℕ} {a : List ℕ} (k m l r v : ℕ) → v ≡ number_of (kind_of k) → Recorded rs n a → n < most_formulas
     → Recorded (rs ++ (row k m l r ∷ [])) (n + 1) (set (set (set (set a (n * formula_fields) v) (n * formula_fields + 1) m) (n * formula_fields + 2) l) (n * formula_fields + 3) r)
 push_at {rs} {n} {a} k m l r v d (recorded b e q) h =

@@ -1,2 +1,3 @@
 pub mod Recorded
 pub mod Priority
+pub mod Kinds

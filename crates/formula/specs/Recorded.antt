@@ -3,7 +3,8 @@ use Rattle.std.specs.Prelude.{ℕ, zero, suc, ◌≤◌, ◌<◌, ◌≡◌, Lis
 use Rattle.definition.specs.Limits.{most_formulas}
 use Rattle.limits.specs.Arrays.{formula_cells}
 use Rattle.definition.specs.Lists.{concat_map, padded}
-use Rattle.definition.specs.Records.{Rec, Unknown, made, number_of, kind_of}
+use Rattle.definition.specs.Records.{nobody, Rec, Unknown, made, number_of, kind_of}
+use Rattle.formula.specs.declared.Formulas.{Formulas}
 
 -- field j of a record
 abbrev pub column : ℕ → Rec → ℕ
@@ -28,3 +29,11 @@ pub data Recorded (rs : List Rec) (count : ℕ) (a : List ℕ) : Type 0 where
 -- the record with this kind number and these fields; a number above 8 is no kind of the table
 abbrev pub row : ℕ → ℕ → ℕ → ℕ → Rec
 row k m l r = record { kind = kind_of k; mark = m; left = l; right = r }
+
+-- the struct holds the records
+abbrev pub HasRecords : List Rec → Formulas → Type 0
+HasRecords rs f = Recorded rs f.count f.cells
+
+-- the number of the record that comes after so many; where there are too many, that of a comment, which names no record
+abbrev pub IsNext : ℕ → ℕ → Type 0
+IsNext count number = (count ≤ most_formulas → number ≡ count) × (most_formulas < count → number ≡ nobody)

@@ -1,53 +1,35 @@
 -- The lines one after the other, and what the window of an input prints.
-use mathlib.Core.Path.{◌≡◌, refl, ◌∙◌, ap, subst}
-use mathlib.Core.List.{List, ◌++◌}
+use Rattle.std.proofs.Common.{◌≡◌, refl, ◌∙◌, ap, List, ◌++◌, ℕ, zero, suc, ◌+◌, ◌*◌, ◌≤◌, ◌<◌, length, take, arith, Result, Ok, Err, IfErr, length-append}
+use Rattle.std.specs.Bool.{⊤}
 use mathlib.Core.Logic.{⊎_elim}
-use Prim.Native.Nat.{ℕ, zero, suc, ◌+◌, ◌≤◌, ◌<◌}
-use native.Mathlib.Omega.{arith}
 use native.Mathlib.Numerals.{add-one}
-use lib.ListN.{length, take}
-use lib.Seq.{length-take-le}
-use Rattle.io.specs.Counts.{IsPrefixLen}
 use Rattle.definition.specs.Trays.{Trays, zero_trays}
-use Rattle.definition.specs.Call.{answer, lengths_of}
+use Rattle.definition.specs.Call.{answer}
 use Rattle.definition.specs.Call as Call
-use Rattle.prover.specs.Said.{said}
-use Rattle.prover.specs.declared.Answer.{Answer}
-use Rattle.frames.specs.Line.{line_of}
-use Rattle.frames.specs.Lines.{lines_below, answers_of, eight_lines, Printed}
-use Rattle.frames.specs.Put.{Put}
-use Rattle.frames.specs.Window.{window_length, kept_length, Window, Windowed}
-use Rattle.frames.proofs.Answering.{answer_lengths, answer_overlong}
-use Rattle.frames.proofs.Texts.{put_put, put_counts}
-use Rattle.frames.proofs.Windows.{within, window_over}
+use Rattle.frames.specs.Line.{line_of, line_length}
+use Rattle.frames.specs.Lines.{lines_below, answers_of, eight_lines, Printed, Runs}
+use Rattle.frames.specs.Window.{window_length, window, Window}
+use Rattle.frames.specs.declared.error.RunError.{RunError}
+use Rattle.frames.specs.declared.error.RunError.TheVariants.{WriteFailed}
+use Rattle.frames.proofs.Answering.{answer_overlong}
+use Rattle.frames.proofs.Windows.{within, window_over, window_seen}
 
--- the line of the call's answer, whatever the trays lent held
-pub put_answer : {text now : List ℕ} {at r : ℕ} (a : Answer) (branch : List ℕ) (flags : ℕ) (lent : Trays) → said a ≡ answer branch flags lent → lengths_of lent ≡ lengths_of zero_trays
-    → Put text at (line_of flags (said a)) now r → Put text at (line_of flags (answer branch flags zero_trays)) now r
-put_answer {text} {now} {at} {r} a branch flags lent e l p =
-    subst (λ (x : Call.Answer). Put text at (line_of flags x) now r) (e ∙ answer_lengths branch flags lent zero_trays l) p
-
-pub lines_none : (text : List ℕ) (answers : ℕ → Call.Answer) → Put text 0 (lines_below 0 answers) text 0
+pub lines_next : (text now line : List ℕ) (answers : ℕ → Call.Answer) (flags : ℕ) → text ≡ lines_below flags answers → now ≡ text ++ line → line ≡ line_of flags (answers flags)
+    → now ≡ lines_below (flags + 1) answers
 unfolding lines_below
-lines_none text answers = record { size = refl; moved = refl; holds = refl }
+lines_next text now line answers flags p q e = rw (add-one flags) (q ∙ ap (λ (s : List ℕ). s ++ line) p ∙ ap (λ (s : List ℕ). lines_below flags answers ++ s) e)
 
-pub lines_next : {text mid now : List ℕ} {at r : ℕ} (answers : ℕ → Call.Answer) (flags : ℕ) → Put text 0 (lines_below flags answers) mid at
-    → Put mid at (line_of flags (answers flags)) now r → Put text 0 (lines_below (flags + 1) answers) now r
-unfolding lines_below
-lines_next answers flags p q = rw (add-one flags) (put_put p q)
+pub lines_length : (text now line : List ℕ) (flags : ℕ) → now ≡ text ++ line → length text ≤ line_length * flags → length line ≤ line_length
+    → length now ≤ line_length * (flags + 1)
+lines_length text now line flags q h k = omega (arith, ap length q, length-append text line, h, k)
 
--- all eight
-pub lines_all : {text now : List ℕ} {r : ℕ} (answers : ℕ → Call.Answer) (flags : ℕ) → Put text 0 (lines_below flags answers) now r → flags ≡ 8
-    → IsPrefixLen r now × (take r now ≡ lines_below 8 answers)
-lines_all answers flags p e = (put_counts p, p.holds ∙ ap (λ (n : ℕ). lines_below n answers) e)
-
-answer_window : (whole kept : List ℕ) (seen flags : ℕ) (lent : Trays) → kept_length ≤ length kept → Window whole kept seen → answer (take seen kept) flags lent ≡ answer whole flags lent
+answer_window : (whole kept : List ℕ) (seen flags : ℕ) (lent : Trays) → length (take seen kept) ≡ seen → Window whole kept seen → answer (take seen kept) flags lent ≡ answer whole flags lent
 answer_window whole kept seen flags lent size w =
     ⊎_elim
     (λ (h : length whole ≤ window_length). ap (λ (s : List ℕ). answer s flags lent) (w.bytes h))
     (λ (h : window_length < length whole).
     let known = w.counted ∙ window_over (length whole) h in
-    answer_overlong whole (take seen kept) flags lent h (length-take-le seen kept (omega arith) ∙ known))
+    answer_overlong whole (take seen kept) flags lent h (size ∙ known))
     (within (length whole))
 
 lines_same : (n : ℕ) (a b : ℕ → Call.Answer) → ((flags : ℕ) → a flags ≡ b flags) → lines_below n a ≡ lines_below n b
@@ -58,10 +40,19 @@ lines_same (suc n) a b h =
     ∙ ap (λ (x : Call.Answer). lines_below n b ++ line_of n x) (h n)
 
 -- what is printed of the bytes kept is what the whole input asks for
-pub printed : {kept text : List ℕ} {seen n : ℕ} → Windowed kept seen → take n text ≡ eight_lines (take seen kept) → Printed kept text seen n
-printed {kept} {text} {seen} {n} w e =
+printed : (kept text : List ℕ) (seen : ℕ) → length (take seen kept) ≡ seen → window seen ≡ seen → text ≡ eight_lines (take seen kept) → Printed kept seen text
+printed kept text seen size counted e =
     record {
-      whole = w.whole;
-      held = w.held;
-      lines = e ∙ lines_same 8 (answers_of (take seen kept)) (answers_of w.whole) (λ flags. answer_window w.whole kept seen flags zero_trays w.enough w.held);
+      whole = take seen kept;
+      held = window_seen kept seen size counted;
+      lines = λ input w. e ∙ lines_same 8 (answers_of (take seen kept)) (answers_of input) (λ flags. answer_window input kept seen flags zero_trays size w);
     }
+
+runs : (kept text : List ℕ) (seen : ℕ) (r : Result ⊤ RunError) → IfErr r (λ error. error ≡ WriteFailed) → Printed kept seen text → Runs kept seen text r
+runs kept text seen (Ok done) h p = p
+runs kept text seen (Err error) h p = rw h p
+
+-- whether the lines are written or not
+pub runs_printed : (kept text : List ℕ) (seen : ℕ) (r : Result ⊤ RunError) → length (take seen kept) ≡ seen → window seen ≡ seen → text ≡ eight_lines (take seen kept)
+    → IfErr r (λ error. error ≡ WriteFailed) → Runs kept seen text r
+runs_printed kept text seen r size counted e h = runs kept text seen r h (printed kept text seen size counted e)

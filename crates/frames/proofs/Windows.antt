@@ -1,18 +1,19 @@
 -- The window of an input: counting by parts, and keeping by parts, say the same as the whole.
 use mathlib.Core.Path.{◌≡◌, refl, sym, ◌∙◌, ap, subst}
-use mathlib.Core.List.{List, [], ◌++◌}
+use mathlib.Core.List.{List, ◌++◌}
 use mathlib.Core.Bool.{Bool, true, false}
 use mathlib.Core.Logic.{◌⊎◌, inl, inr, ⊎_elim}
 use Prim.Native.Nat.{ℕ, ◌+◌, ◌-◌, ◌%◌, ◌≤◌, ◌<◌, min}
 use native.Mathlib.Omega.{arith}
-use native.Mathlib.Nat.{add-mod, min-eq_right, min-le_left, min-le_right}
+use native.Mathlib.Nat.{add-mod, min-eq_right, min-le_right}
 use borrow.Author.Tests.{le-leb, lt-leb, leb-true, leb-false}
 use lib.Dec.{leb}
-use lib.ListN.{length, take, length-append}
-use lib.Seq.{paste, take-length, take-paste, length-paste, length-take-le}
-use Rattle.io.specs.Counts.{IsPrefixLen}
+use lib.ListN.{length, take, drop, length-append}
+use lib.Seq.{paste, take-length, take-paste, length-take-le}
+use borrow.Rule.Slice.PartMut.{put_mid}
+use Rattle.std.proofs.lemmas.Slice.{put_mid-paste}
 use Rattle.definition.specs.Limits.{record_length}
-use Rattle.frames.specs.Window.{window_length, over_length, kept_length, window, kept_with, Window, Windowed}
+use Rattle.frames.specs.Window.{window_length, over_length, kept_length, window, kept_with, Window}
 
 pub within : (n : ℕ) → (n ≤ window_length) ⊎ (window_length < n)
 within n = go (leb n window_length) refl
@@ -48,9 +49,6 @@ window_most : (n : ℕ) → window n ≤ kept_length
 window_most n =
     ⊎_elim (λ (h : n ≤ window_length). omega (arith, window_exact n h)) (λ (h : window_length < n). omega (arith, window_over n h)) (within n)
 
-window_none : (kept : List ℕ) → Window [] kept 0
-window_none kept = record { counted = sym (window_exact 0 (omega arith)); bytes = λ h. refl }
-
 kept_exact : (whole kept part : List ℕ) (seen : ℕ) → kept_length ≤ length kept → Window whole kept seen → length whole + length part ≤ window_length
     → take (window (seen + length part)) (kept_with kept seen part) ≡ whole ++ part
 unfolding kept_with
@@ -75,32 +73,36 @@ window_next whole kept part seen size w =
       bytes = λ h. kept_exact whole kept part seen size w (omega (arith, length-append whole part));
     }
 
-length_kept : (kept part : List ℕ) (seen : ℕ) → seen ≤ length kept → length (kept_with kept seen part) ≡ length kept
+-- a count that is its own window is within what is kept
+pub counted_most : (n : ℕ) → window n ≡ n → n ≤ kept_length
+counted_most n e = omega (arith, window_most n, e)
+
+-- the bytes seen are an input that the bytes kept are the window of
+pub window_seen : (kept : List ℕ) (seen : ℕ) → length (take seen kept) ≡ seen → window seen ≡ seen → Window (take seen kept) kept seen
+window_seen kept seen size e = record { counted = sym e ∙ ap window (sym size); bytes = λ h. refl }
+
+window_twice : (n : ℕ) → window (window n) ≡ window n
+window_twice n =
+    let none : n + 0 ≡ n = omega arith in
+    let same : window n + 0 ≡ window n = omega arith in
+    ap window (sym same) ∙ window_window n 0 ∙ ap window none
+
+-- what counts a further part is its own window
+pub counted_is : (r n : ℕ) → r ≡ window n → window r ≡ r
+counted_is r n e = ap window e ∙ window_twice n ∙ sym e
+
+-- what is kept after a write behind the bytes seen
+pub kept_put : (kept part now : List ℕ) (seen n k : ℕ) → now ≡ take n part → n ≡ min (length kept - seen) (length part) → k ≡ n
+    → put_mid seen k kept now ≡ kept_with kept seen part
 unfolding kept_with
-length_kept kept part seen h =
-    length-paste kept seen part (min (length kept - seen) (length part))
-    (omega (arith, min-le_left (length kept - seen) (length part)))
-    (min-le_right (length kept - seen) (length part))
+kept_put kept part now seen n k e r s =
+    let short : n ≤ length part = omega (arith, r, min-le_right (length kept - seen) (length part)) in
+    let all : length (take n part) ≡ n = length-take-le n part short in
+    put_mid-paste seen k kept now (take n part) n e (sym s) (sym all)
+    ∙ ap (λ (l : List ℕ). take seen kept ++ l ++ drop (seen + n) kept) (ap (λ (m : ℕ). take m (take n part)) (sym all) ∙ take-length (take n part))
+    ∙ ap (paste kept seen part) r
 
-pub windowed_none : (kept : List ℕ) → kept_length ≤ length kept → Windowed kept 0
-windowed_none kept h = record { enough = h; whole = []; held = window_none kept }
-
-windowed_most : (kept : List ℕ) (seen : ℕ) → Windowed kept seen → seen ≤ length kept
-windowed_most kept seen w = omega (arith, w.enough, w.held.counted, window_most (length w.whole))
-
-pub windowed_counts : {kept : List ℕ} {seen : ℕ} → Windowed kept seen → IsPrefixLen seen kept
-windowed_counts {kept} {seen} w = (windowed_most kept seen w, sym (length-take-le seen kept (windowed_most kept seen w)))
-
-windowed_next : (kept part : List ℕ) (seen : ℕ) → Windowed kept seen → Windowed (kept_with kept seen part) (window (seen + length part))
-windowed_next kept part seen w =
-    record {
-      enough = omega (arith, w.enough, length_kept kept part seen (windowed_most kept seen w));
-      whole = w.whole ++ part;
-      held = window_next w.whole kept part seen w.enough w.held;
-    }
-
--- what `keep` leaves
-pub windowed_kept : {kept now : List ℕ} {seen r : ℕ} (part : List ℕ) → (r ≡ window (seen + length part)) × (now ≡ kept_with kept seen part) → Windowed kept seen → Windowed now r
-windowed_kept {kept} {now} {seen} {r} part k w =
-    subst (λ (s : List ℕ). Windowed s r) (sym k.1)
-    (subst (λ (n : ℕ). Windowed (kept_with kept seen part) n) (sym k.0) (windowed_next kept part seen w))
+-- a further part takes the window of an input to the window of both together
+pub window_kept : (whole kept part now : List ℕ) (seen r : ℕ) → kept_length ≤ length kept → now ≡ kept_with kept seen part → r ≡ window (seen + length part)
+    → Window whole kept seen → Window (whole ++ part) now r
+window_kept whole kept part now seen r size e d w = rw (e, d) (window_next whole kept part seen size w)

@@ -1,4 +1,4 @@
 pub mod Window
 pub mod Line
 pub mod Lines
-pub mod Put
+pub mod Messages

@@ -7,6 +7,10 @@ use Rattle.slices.specs.Text.{decimal_of, line_of_words}
 abbrev pub line_length : ℕ
 line_length = 96
 
+-- no number of 64 bits and the byte after it are longer
+abbrev pub number_length : ℕ
+number_length = 21
+
 -- "open", "proved", "late", "refused" in ASCII
 abbrev pub open_word : List ℕ
 open_word = 111 ∷ 112 ∷ 101 ∷ 110 ∷ []

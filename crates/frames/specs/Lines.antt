@@ -1,11 +1,11 @@
 -- The lines of the flags 0 to 7.
-use Rattle.std.specs.Prelude.{List, [], ◌++◌, ℕ, zero, suc, ◌≡◌, take}
+use Rattle.std.specs.Prelude.{List, [], ◌++◌, ℕ, zero, suc, ◌≡◌, ⊤, Result, Ok, Err}
 use Rattle.definition.specs.Trays.{zero_trays}
 use Rattle.definition.specs.Call.{Answer, refusal, answer}
 use Rattle.frames.specs.Line.{line_of}
 use Rattle.frames.specs.Window.{Window}
-use Rattle.frames.specs.declared.Ran.{Ran}
-use Rattle.frames.specs.declared.Ran.TheVariants.{ArgumentGiven, ReadFailed, WriteFailed, Done}
+use Rattle.frames.specs.declared.error.RunError.{RunError}
+use Rattle.frames.specs.declared.error.RunError.TheVariants.{ArgumentGiven, ReadFailed, WriteFailed}
 
 -- the lines of the flags below n, by the answer to each
 unfoldable pub lines_below : ℕ → (ℕ → Answer) → List ℕ
@@ -26,15 +26,15 @@ refusals number place flags = refusal number place
 abbrev pub refusal_lines : ℕ → ℕ → List ℕ
 refusal_lines number place = lines_below 8 (refusals number place)
 
--- the text is the eight lines of a whole input, of which the bytes kept are the window
-pub record Printed (kept text : List ℕ) (seen printed : ℕ) : Type 0 where
+-- the bytes kept are the window of a whole input, and the text is the eight lines of each input that they may be the window of
+pub record Printed (kept : List ℕ) (seen : ℕ) (text : List ℕ) : Type 0 where
   pub whole : List ℕ
   pub held : Window whole kept seen
-  pub lines : take printed text ≡ eight_lines whole
+  pub lines : (input : List ℕ) → Window input kept seen → text ≡ eight_lines input
 
--- what a run without arguments leaves in what it was lent: after a read error, any bytes
-abbrev pub Runs : List ℕ → List ℕ → Ran → Type 0
-Runs kept text ArgumentGiven = ⊥
-Runs kept text ReadFailed = Unit {0}
-Runs kept text (WriteFailed seen printed) = Printed kept text seen printed
-Runs kept text (Done seen printed) = Printed kept text seen printed
+-- what a run without arguments leaves in what it was lent: after a read error, any text
+abbrev pub Runs : List ℕ → ℕ → List ℕ → Result ⊤ RunError → Type 0
+Runs kept seen text (Err (ArgumentGiven taken)) = ⊥
+Runs kept seen text (Err ReadFailed) = Unit {0}
+Runs kept seen text (Err WriteFailed) = Printed kept seen text
+Runs kept seen text (Ok done) = Printed kept seen text

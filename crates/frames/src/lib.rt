@@ -1,33 +1,30 @@
 // Eight Frames: what is kept of standard input, and the lines that are printed of it.
 #![tactic(auto)]
 
-ghost use Rattle.std.specs.Prelude.{◌≡◌, false, [], ◌∷◌, ◌++◌, ◌+◌, ◌-◌, ◌≤◌, ◌<◌, min, length, take};
-ghost use Rattle.io.specs.Counts.{IsPrefixLen};
+ghost use Rattle.std.specs.Prelude.{◌≡◌, false, [], ◌∷◌, ◌++◌, ◌+◌, ◌≤◌, ◌<◌, ℕ, Err, IfErr, length};
+ghost use Rattle.arrayvec.specs.ArrayVec.{array_vec_len};
 ghost use Rattle.definition.specs.Trays.{zero_trays};
-ghost use Rattle.definition.specs.Call.{answer, refusal};
+ghost use Rattle.definition.specs.Call as Call;
+ghost use Rattle.definition.specs.Call.{answer};
+ghost use Rattle.refusal.specs.Number.{number_of};
 ghost use Rattle.prover.specs.Said.{said};
-ghost use Rattle.frames.specs.Window.{kept_length, window, kept_with, Windowed, Reads, ReadsMore};
 ghost use Rattle.slices.specs.Text.{decimal_of, line_of_words};
-ghost use Rattle.frames.specs.Line.{line_length, line_of, refused_word, word_of};
-ghost use Rattle.frames.specs.Lines.{eight_lines, refusal_lines, Runs};
-ghost use Rattle.frames.specs.Put.{Put, number_length};
+ghost use Rattle.frames.specs.Line.{line_of, refused_word, word_of, number_length};
+ghost use Rattle.frames.specs.Lines.{lines_below, eight_lines, refusal_lines, Runs};
 
-use limits::{
-    EDGE_TRAY_LENGTH, FORMULA_TRAY_LENGTH, MOST_RECORDS, NODE_TRAY_LENGTH, RECORD_LENGTH,
-};
-use prover::{Answer, prove};
+mod error;
+mod kept;
+
+use arrayvec::ArrayVec;
+pub use error::{RunError, Taken};
+use itoa::Buffer;
+pub use kept::{KEPT_LENGTH, Kept};
+use limits::{EDGE_TRAY_LENGTH, FORMULA_TRAY_LENGTH, NODE_TRAY_LENGTH};
+use prover::{Verdict, prove};
+use refusal::Refusal;
 use std::env::FillError;
 use std::io::{Read, Write};
 use std::rt::Env;
-
-// The bytes of the longest branch.
-const WINDOW_LENGTH: usize = RECORD_LENGTH * MOST_RECORDS;
-
-// The least count that stands for a longer input.
-const OVER_LENGTH: usize = WINDOW_LENGTH + RECORD_LENGTH;
-
-// So many bytes are kept of an input: no count is greater.
-pub const KEPT_LENGTH: usize = OVER_LENGTH + RECORD_LENGTH - 1;
 
 // No number of 64 bits and the byte after it are longer.
 const NUMBER_LENGTH: usize = 21;
@@ -38,331 +35,144 @@ pub const LINE_LENGTH: usize = 96;
 // A line for each of the flags 0 to 7.
 pub const TEXT_LENGTH: usize = 8 * LINE_LENGTH;
 
-pub type KeptBytes = [u8; KEPT_LENGTH];
+pub type Line = ArrayVec<u8, LINE_LENGTH>;
 
-pub type LineBytes = [u8; LINE_LENGTH];
+pub type Lines = ArrayVec<u8, TEXT_LENGTH>;
 
-pub type TextBytes = [u8; TEXT_LENGTH];
-
-// What came of reading: an error, or how many bytes have been seen.
-#[derive(Clone, Copy)]
-enum Input {
-    Failed,
-    Seen { seen: usize },
-}
-
-// What came of a run: an argument that is not taken, an error, or what was read and printed.
-#[derive(Clone, Copy)]
-pub enum Ran {
-    ArgumentGiven,
-    ReadFailed,
-    WriteFailed { seen: usize, printed: usize },
-    Done { seen: usize, printed: usize },
-}
-
-// One more read: an error, the end of the input, or how many bytes have been seen.
-#[derive(Clone, Copy)]
-enum More {
-    Failed,
-    Ended,
-    Seen { seen: usize },
-}
-
-// The count of bytes seen, with n more. It is exact up to WINDOW_LENGTH; beyond that it is the one
-// from OVER_LENGTH to KEPT_LENGTH that has the same remainder by RECORD_LENGTH, and so the same answer.
-fn add(seen: usize, n: usize) -> usize
-    ensures { result ≡ window (seen + n) }
+// Appends bytes. Where they do not fit, the text stays as it is.
+pub fn append<const N: usize>(text: &mut ArrayVec<u8, N>, bytes: &[u8])
+    ensures fits { array_vec_len text.old + length bytes.now ≤ N → text.new.items ≡ text.old.items ++ bytes.now }
+    ensures full { N < array_vec_len text.old + length bytes.now → text.new ≡ text.old }
 {
-    if seen <= WINDOW_LENGTH {
-        if n <= WINDOW_LENGTH - seen {
-            return seen + n;
-        }
-    }
-    OVER_LENGTH + (seen % RECORD_LENGTH + n % RECORD_LENGTH) % RECORD_LENGTH
+    let _ = text.try_extend_from_slice(bytes);
 }
 
-// How many of n bytes have room after those seen, of so many in all.
-fn room(size: usize, seen: usize, n: usize) -> usize
-    ensures { result ≡ min (size - seen) n }
+// Appends a number and the byte after it. Where the longest number does not fit, the text stays as it is.
+#[tactic(auto, using(crate::proofs::Texts::decimal_is))]
+pub fn append_number<const N: usize>(text: &mut ArrayVec<u8, N>, number: u64, after: u8)
+    ensures fits { array_vec_len text.old + number_length ≤ N → text.new.items ≡ text.old.items ++ (decimal_of number ++ (after ∷ [])) }
+    ensures full { N < array_vec_len text.old + number_length → text.new ≡ text.old }
+    ensures len { array_vec_len text.new ≤ array_vec_len text.old + number_length }
 {
-    if size <= seen {
-        return 0;
+    if text.remaining_capacity() < NUMBER_LENGTH {
+        return;
     }
-    if n < size - seen {
-        return n;
-    }
-    size - seen
-}
-
-// A further part of the input, kept after the bytes seen as far as there is room; the bytes then seen.
-pub fn keep(kept: &mut [u8], seen: usize, part: &[u8]) -> usize
-    ensures value { result ≡ window (seen + length part.now) }
-    ensures kept_after { kept.new ≡ kept_with kept.old seen part.now }
-{
-    let n = room(kept.len(), seen, part.len());
-    let mut i: usize = 0;
-    while i < n {
-        kept[seen + i] = part[i];
-        i += 1;
-    }
-    add(seen, part.len())
-}
-
-// Reads once.
-fn read_more<R: Read>(input: &mut R, kept: &mut [u8], seen: usize) -> More
-    requires { Windowed kept.old seen }
-    ensures { ReadsMore kept.new seen result }
-{
-    let mut part = io::large_buffer();
-    match input.read(&mut part) {
-        Err(_) => More::Failed,
-        Ok(0) => More::Ended,
-        Ok(n) => More::Seen {
-            seen: keep(kept, seen, &part[..n]),
-        },
-    }
-}
-
-// Reads the input to its end. A proved loop has to end, and nothing says that the input does:
-// the reads are counted, and after 2^64 - 1 of them, which no input reaches, it is a read error.
-fn read_all<R: Read>(input: &mut R, kept: &mut [u8]) -> Input
-    requires { kept_length ≤ length kept.old }
-    ensures { Reads kept.new result }
-{
-    let mut seen: usize = 0;
-    let mut reads = u64::MAX;
-    while 0 < reads {
-        match read_more(input, kept, seen) {
-            More::Failed => return Input::Failed,
-            More::Ended => return Input::Seen { seen },
-            More::Seen { seen: now } => seen = now,
-        }
-        reads -= 1;
-    }
-    Input::Failed
-}
-
-// Bytes put at a position; the position after them.
-fn put(text: &mut [u8], at: usize, bytes: &[u8]) -> usize
-    requires { at + length bytes.now ≤ length text.old }
-    ensures { Put text.old at bytes.now text.new result }
-{
-    let mut i: usize = 0;
-    while i < bytes.len() {
-        text[at + i] = bytes[i];
-        i += 1;
-    }
-    at + bytes.len()
-}
-
-// Bytes put at a position, and the position after them. Where they do not fit, nothing is put.
-pub fn put_at(text: &mut [u8], at: usize, bytes: &[u8]) -> usize
-    ensures put { at + length bytes.now ≤ length text.old → Put text.old at bytes.now text.new result }
-    ensures value { length text.old < at + length bytes.now → (result ≡ at) × (text.new ≡ text.old) }
-{
-    if text.len() < at {
-        return at;
-    }
-    if text.len() - at < bytes.len() {
-        return at;
-    }
-    put(text, at, bytes)
-}
-
-// A number and the byte after it.
-fn put_number(text: &mut [u8], at: usize, n: u64, after: u8) -> usize
-    requires { at + number_length ≤ length text.old }
-    ensures put { Put text.old at (decimal_of n ++ (after ∷ [])) text.new result }
-    ensures upper_bound { result ≤ at + number_length }
-{
-    let mut digits = [0u8; 20];
-    let k = io::decimal(n, &mut digits);
-    let end = put(text, at, &digits[..k]);
-    put(text, end, &[after])
-}
-
-// A number and the byte after it, and the position after them. Where the longest number does not fit,
-// nothing is put.
-pub fn put_number_at(text: &mut [u8], at: usize, n: u64, after: u8) -> usize
-    ensures put { at + number_length ≤ length text.old → Put text.old at (decimal_of n ++ (after ∷ [])) text.new result × (result ≤ at + number_length) }
-    ensures value { length text.old < at + number_length → (result ≡ at) × (text.new ≡ text.old) }
-{
-    if text.len() < at {
-        return at;
-    }
-    if text.len() - at < NUMBER_LENGTH {
-        return at;
-    }
-    put_number(text, at, n, after)
+    append(text, Buffer::new().format(number).as_bytes());
+    text.push(after);
 }
 
 // The word of a verdict and a space.
-fn put_word(text: &mut [u8], at: usize, proved: bool, late: bool) -> usize
-    requires { at + 7 ≤ length text.old }
-    ensures put { Put text.old at (word_of proved late ++ (32 ∷ [])) text.new result }
-    ensures upper_bound { result ≤ at + 7 }
+#[tactic(auto, unfolding(crate::specs::Line::word_of))]
+fn word(proved: bool, late: bool) -> &'static [u8]
+    ensures value { result.now ≡ word_of proved late ++ (32 ∷ []) }
+    ensures len { length result.now ≤ 7 }
 {
-    if proved {
-        return put(text, at, b"proved ");
+    match (proved, late) {
+        (true, _) => b"proved ",
+        (false, true) => b"late ",
+        (false, false) => b"open ",
     }
-    if late {
-        return put(text, at, b"late ");
-    }
-    put(text, at, b"open ")
 }
 
 // What a refusal prints after the flags.
-fn put_refusal(text: &mut [u8], at: usize, number: u16, place: u16) -> usize
-    requires { at + 50 ≤ length text.old }
-    ensures put { Put text.old at (line_of_words refused_word (decimal_of number ∷ decimal_of place ∷ [])) text.new result }
-    ensures upper_bound { result ≤ at + 50 }
+#[tactic(auto, using(std::proofs::lemmas::Grind::common_steps), unfolding(slices::specs::Text::line_of_words))]
+fn append_refusal(text: &mut Line, refusal: Refusal)
+    requires { array_vec_len text.old ≤ number_length }
+    ensures { text.new.items ≡ text.old.items ++ line_of_words refused_word (decimal_of (number_of refusal.reason) ∷ decimal_of refusal.place ∷ []) }
 {
-    let a = put(text, at, b"refused ");
-    let b = put_number(text, a, number as u64, b' ');
-    put_number(text, b, place as u64, b'\n')
+    append(text, b"refused ");
+    append_number(text, u16::from(refusal.reason) as u64, b' ');
+    append_number(text, refusal.place as u64, b'\n');
 }
 
-// The counts of a verdict.
-fn put_counts(text: &mut [u8], at: usize, identifiers: u64, worlds: u64, steps: u64) -> usize
-    requires { at + 63 ≤ length text.old }
-    ensures put { Put text.old at (line_of_words (decimal_of identifiers) (decimal_of worlds ∷ decimal_of steps ∷ [])) text.new result }
-    ensures upper_bound { result ≤ at + 63 }
+// What a verdict prints after the flags.
+#[tactic(auto, using(std::proofs::lemmas::Grind::common_steps), unfolding(slices::specs::Text::line_of_words))]
+fn append_verdict(text: &mut Line, verdict: Verdict)
+    requires { array_vec_len text.old ≤ number_length }
+    ensures { text.new.items ≡ text.old.items ++ line_of_words (word_of verdict.proved verdict.late) (decimal_of verdict.identifiers ∷ decimal_of verdict.worlds ∷ decimal_of verdict.steps ∷ []) }
 {
-    let a = put_number(text, at, identifiers, b' ');
-    let b = put_number(text, a, worlds, b' ');
-    put_number(text, b, steps, b'\n')
+    append(text, word(verdict.proved, verdict.late));
+    append_number(text, verdict.identifiers as u64, b' ');
+    append_number(text, verdict.worlds as u64, b' ');
+    append_number(text, verdict.steps as u64, b'\n');
 }
 
-// The line of an answer.
-fn put_line(text: &mut [u8], at: usize, flags: u8, answer: Answer) -> usize
-    requires { at + line_length ≤ length text.old }
-    ensures put { Put text.old at (line_of flags (said answer)) text.new result }
-    ensures upper_bound { result ≤ at + line_length }
+// The line of an answer to these flags.
+pub fn line(flags: u8, answer: Result<Verdict, Refusal>) -> Line
+    ensures { result.items ≡ line_of flags (said answer) }
 {
-    let a = put_number(text, at, flags as u64, b' ');
+    let mut text = Line::new();
+    append_number(&mut text, flags as u64, b' ');
     match answer {
-        Answer::Refusal { number, place } => put_refusal(text, a, number, place),
-        Answer::Verdict {
-            proved,
-            late,
-            identifiers,
-            formulas: _,
-            worlds,
-            steps,
-        } => {
-            let b = put_word(text, a, proved, late);
-            put_counts(text, b, identifiers as u64, worlds as u64, steps as u64)
-        }
+        Ok(verdict) => append_verdict(&mut text, verdict),
+        Err(refusal) => append_refusal(&mut text, refusal),
     }
+    text
 }
 
-// The line of an answer to these flags, and its length.
-pub fn line(text: &mut LineBytes, flags: u8, answer: Answer) -> usize
-    ensures prefix_len { IsPrefixLen result text.new }
-    ensures text_after { take result text.new ≡ line_of flags (said answer) }
-{
-    put_line(text, 0, flags, answer)
-}
-
-// The line of the call with these flags, put at a position.
-fn put_frame(text: &mut [u8], at: usize, branch: &[u8], flags: u8) -> usize
-    requires { at + line_length ≤ length text.old }
-    ensures put { Put text.old at (line_of flags (answer branch.now flags zero_trays)) text.new result }
-    ensures upper_bound { result ≤ at + line_length }
+// The call with these flags and empty trays.
+fn call(branch: &[u8], flags: u8) -> Result<Verdict, Refusal>
+    ensures { said result ≡ answer branch.now flags zero_trays }
 {
     let mut nodes = [0u8; NODE_TRAY_LENGTH];
     let mut formulas = [0u8; FORMULA_TRAY_LENGTH];
     let mut edges = [0u32; EDGE_TRAY_LENGTH];
-    let answer = prove(branch, flags, &mut nodes, &mut formulas, &mut edges);
-    put_line(text, at, flags, answer)
+    prove(branch, flags, &mut nodes, &mut formulas, &mut edges)
 }
 
-// The eight lines of a branch, and their length.
-pub fn lines(text: &mut TextBytes, branch: &[u8]) -> usize
-    ensures prefix_len { IsPrefixLen result text.new }
-    ensures text_after { take result text.new ≡ eight_lines branch.now }
+// The lines of the answers to the flags 0 to 7.
+fn lines_by<F: Fn(u8) -> Result<Verdict, Refusal>>(answer_to: F) -> Lines
+    requires { F.IsAlwaysCallable answer_to }
+    ensures { (answers : ℕ → Call.Answer) → ((flags : ℕ) (r : _) → flags < 8 → F.post answer_to flags r → said r ≡ answers flags) → result.items ≡ lines_below 8 answers }
 {
-    let mut at: usize = 0;
-    let mut flags: u8 = 0;
-    while flags < 8 {
-        at = put_frame(text, at, branch, flags);
-        flags += 1;
+    let mut text = Lines::new();
+    for flags in 0..8 {
+        append(&mut text, &line(flags, answer_to(flags)));
     }
-    at
+    text
 }
 
-// The line of a refusal, put at a position.
-fn put_refused(text: &mut [u8], at: usize, flags: u8, number: u16, place: u16) -> usize
-    requires { at + line_length ≤ length text.old }
-    ensures put { Put text.old at (line_of flags (refusal number place)) text.new result }
-    ensures upper_bound { result ≤ at + line_length }
+// The eight lines of a branch.
+pub fn lines(branch: &[u8]) -> Lines
+    ensures { result.items ≡ eight_lines branch.now }
 {
-    put_line(text, at, flags, Answer::Refusal { number, place })
+    lines_by(|flags| call(branch, flags))
 }
 
-// The eight lines of a refusal, and their length.
-pub fn refusal_lines(text: &mut TextBytes, number: u16, place: u16) -> usize
-    ensures prefix_len { IsPrefixLen result text.new }
-    ensures text_after { take result text.new ≡ refusal_lines number place }
+// The eight lines of a refusal.
+#[tactic(auto, unfolding(prover::specs::Said::said))]
+pub fn refusal_lines(refusal: Refusal) -> Lines
+    ensures { result.items ≡ refusal_lines (number_of refusal.reason) refusal.place }
 {
-    let mut at: usize = 0;
-    let mut flags: u8 = 0;
-    while flags < 8 {
-        at = put_refused(text, at, flags, number, place);
-        flags += 1;
+    lines_by(|_| Err(refusal))
+}
+
+// Writes a text whole.
+pub fn print<W: Write>(output: &mut W, text: &[u8]) -> Result<(), RunError>
+    ensures { IfErr result (λ error. error ≡ RunError.WriteFailed) }
+{
+    output.write_all(text).or(Err(RunError::WriteFailed))
+}
+
+// Writes why a run failed; an error is let go, since there is nowhere left to report it.
+pub fn report<E: Write>(errors: &mut E, outcome: &Result<(), RunError>) {
+    if let Err(error) = outcome {
+        let _ = writeln!(errors, "{error}");
     }
-    at
 }
 
-// The eight lines of the bytes kept, and their length.
-fn lines_of(text: &mut TextBytes, kept: &[u8], seen: usize) -> usize
-    requires { IsPrefixLen seen kept.now }
-    ensures prefix_len { IsPrefixLen result text.new }
-    ensures text_after { take result text.new ≡ eight_lines (take seen kept.now) }
-{
-    lines(text, &kept[..seen])
-}
-
-// Prints so many bytes of the text; whether all of them were written. Of a text that has fewer, none are.
-pub fn print<W: Write>(output: &mut W, text: &[u8], printed: usize) -> bool
-    ensures { length text.now < printed → result ≡ false }
-{
-    if text.len() < printed {
-        return false;
-    }
-    output.write_all(&text[..printed]).is_ok()
-}
-
-// Writes a message; an error is let go, since there is nowhere left to report it.
-pub fn write_error<E: Write>(errors: &mut E, message: &[u8]) {
-    let _ = errors.write_all(message);
-}
-
-// Reads the input and prints its eight lines. An error is reported on `errors`; after a read error
-// nothing is printed on `output`.
-fn answer_input<R: Read, W: Write, E: Write>(
+// Reads the input and prints its eight lines.
+fn answer_input<R: Read, W: Write>(
     input: &mut R,
     output: &mut W,
-    errors: &mut E,
-    kept: &mut KeptBytes,
-    text: &mut TextBytes,
-) -> Ran
-    ensures { Runs kept.new text.new result }
+    kept: &mut Kept,
+    text: &mut Lines,
+) -> Result<(), RunError>
+    ensures { Runs kept.new.bytes kept.new.seen text.new.items result }
 {
-    match read_all(input, kept) {
-        Input::Failed => {
-            write_error(errors, b"standard input cannot be read\n");
-            Ran::ReadFailed
-        }
-        Input::Seen { seen } => {
-            let printed = lines_of(text, kept, seen);
-            if print(output, text, printed) {
-                return Ran::Done { seen, printed };
-            }
-            write_error(errors, b"standard output cannot be written\n");
-            Ran::WriteFailed { seen, printed }
-        }
-    }
+    kept.read_all(input)?;
+    *text = lines(kept.branch());
+    print(output, text)
 }
 
 // How many words the program was started with, its own name among them: 1, or 2 for all that are more.
@@ -377,26 +187,26 @@ pub fn word_count<E: Env>(env: &E) -> usize
 }
 
 // The program, started with so many words, its own name among them: `input`, `output` and `errors`
-// are the standard ones. With a further word nothing is read or printed; it is reported on `errors`.
+// are the standard ones. With a further word nothing is read or printed. An error is reported on
+// `errors`; after a read error nothing is printed on `output`.
 pub fn run<R: Read, W: Write, E: Write>(
     words: usize,
     input: &mut R,
     output: &mut W,
     errors: &mut E,
-    kept: &mut KeptBytes,
-    text: &mut TextBytes,
-) -> Ran
-    ensures value { 1 < words → result ≡ Ran.ArgumentGiven }
+    kept: &mut Kept,
+    text: &mut Lines,
+) -> Result<(), RunError>
+    ensures value { 1 < words → result ≡ Err (RunError.ArgumentGiven Taken.Records) }
     ensures kept_unchanged { 1 < words → kept.new ≡ kept.old }
     ensures text_unchanged { 1 < words → text.new ≡ text.old }
-    ensures runs { words ≤ 1 → Runs kept.new text.new result }
+    ensures runs { words ≤ 1 → Runs kept.new.bytes kept.new.seen text.new.items result }
 {
-    if 1 < words {
-        write_error(
-            errors,
-            b"no arguments are taken: records come on standard input (README.md)\n",
-        );
-        return Ran::ArgumentGiven;
-    }
-    answer_input(input, output, errors, kept, text)
+    let outcome = if 1 < words {
+        Err(RunError::ArgumentGiven(Taken::Records))
+    } else {
+        answer_input(input, output, kept, text)
+    };
+    report(errors, &outcome);
+    outcome
 }

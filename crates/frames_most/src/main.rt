@@ -2,9 +2,9 @@
 #![tactic(auto)]
 
 fn main(rt: HostRuntime) {
-    let mut kept = [0u8; frames::KEPT_LENGTH];
-    let mut text = [0u8; frames::TEXT_LENGTH];
-    frames::run(
+    let mut kept = frames::Kept::new();
+    let mut text = frames::Lines::new();
+    let _ = frames::run(
         frames::word_count(&rt),
         &mut rt.stdin(),
         &mut rt.stdout(),

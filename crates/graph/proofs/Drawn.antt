@@ -1,5 +1,5 @@
 -- Laws of a graph in its array.
-use Prim.Native.Nat.{ℕ, ◌+◌, ◌-◌, ◌*◌, ◌≤◌, ◌<◌}
+use Prim.Native.Nat.{ℕ, ◌+◌, ◌*◌, ◌≤◌, ◌<◌}
 use mathlib.Core.Path.{◌≡◌, refl, sym, ap, ◌∙◌}
 use mathlib.Core.Bool.{Bool, true, false, not, ◌&&◌, ◌||◌}
 use mathlib.Core.Logic.{◌⊎◌, inl, inr, ⊎_elim}
@@ -10,7 +10,7 @@ use lib.ListN.{get_or, replicate, length-replicate, get_or-replicate}
 use borrow.Author.Tests.{ltb-true, eqb-true, lt-ltb, le-ltb}
 use Rattle.definition.specs.Limits.{graph_width}
 use Rattle.limits.specs.Arrays.{edge_cells}
-use Rattle.definition.specs.Lists.{any, up_from, below}
+use Rattle.definition.specs.Lists.{any, below}
 use Rattle.definition.specs.Graph.{Graph, edge, graph_of, empty_graph, add_missing_reflexive_vertices, add_missing_symmetric_vertices, paired, add_missing_transitive_vertices}
 use Rattle.definition.proofs.Basics.Lists.{true_false, and_left, and_right, or_cases, either, any_below}
 use Rattle.definition.proofs.Soundness.Edges.{edge_graph}
@@ -68,10 +68,6 @@ module _ {g : Graph} {n : ℕ} {a : List ℕ} (d : Drawn g n a) where
       none : (b : Bool) → (b && false) ≡ false
       none true = refl
       none false = refl
-
-  -- the search for a world between two, where no edge joins them
-  pub paths_start : (u w : ℕ) → edge g u w ≡ false → any (paired g u w) (up_from (n - 0) 0) ≡ transitives g u w
-  paths_start u w h = let z : n - 0 ≡ g.worlds = omega (arith, d.count) in rw (h, z)
 
 pub reflexives_out : (n u v : ℕ) → n ≤ u → reflexives n u v ≡ false
 reflexives_out n u v h = rw (le-ltb u n h)

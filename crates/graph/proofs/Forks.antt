@@ -11,22 +11,23 @@ use Rattle.definition.specs.Limits.{graph_width}
 use Rattle.definition.specs.Setting.{Setting}
 use Rattle.definition.specs.Graph.{Graph, edge, graph_of, add_missing_reflexive_vertices, add_missing_symmetric_vertices, add_missing_transitive_vertices, add_missing_graph_vertices, initialize_graph_if_needed, fork}
 use Rattle.definition.proofs.Basics.Lists.{true_false, and_left, and_right, or_cases, either}
-use Rattle.graph.specs.Drawn.{grid, with_vertex, Drawn}
+use Rattle.graph.specs.Drawn.{grid, with_vertex, Drawn, HasGraph}
+use Rattle.graph.specs.declared.Graph as Rust
 use Rattle.graph.proofs.Grid.{grid_same}
 use Rattle.graph.proofs.Drawn.{drawn_out, drawn_graph, within}
 
--- a scan that is done if it is flagged, from the array a to b
-pub data Ran (n : ℕ) (flagged : Bool) (scan : Graph → Graph) (a b : List ℕ) : Type 0 where
-  ran : flagged ≡ true → ((g : Graph) → Drawn g n a → Drawn (scan g) n b) → Ran n flagged scan a b
-  idle : flagged ≡ false → b ≡ a → Ran n flagged scan a b
+-- a scan that is done if it is flagged, from the struct x to y
+pub data Ran (flagged : Bool) (scan : Graph → Graph) (x y : Rust.Graph) : Type 0 where
+  ran : flagged ≡ true → ((g : Graph) → HasGraph g x → HasGraph (scan g) y) → Ran flagged scan x y
+  idle : flagged ≡ false → y ≡ x → Ran flagged scan x y
 
-after : {n : ℕ} {f : Bool} {scan : Graph → Graph} {a b : List ℕ} → Ran n f scan a b → (g : Graph) → Drawn g n a → Drawn (cond f (scan g) g) n b
+after : {f : Bool} {scan : Graph → Graph} {x y : Rust.Graph} → Ran f scan x y → (g : Graph) → HasGraph g x → HasGraph (cond f (scan g) g) y
 after (ran t h) g d = rw t (h g d)
 after (idle t q) g d = rw (t, q) d
 
-pub ran_all : (F : Setting) {n : ℕ} {a b c d : List ℕ} → Ran n F.reflexive add_missing_reflexive_vertices a b →
-    Ran n F.symmetric add_missing_symmetric_vertices b c → Ran n F.transitive add_missing_transitive_vertices c d →
-    (g : Graph) → Drawn g n a → Drawn (add_missing_graph_vertices F g) n d
+pub ran_all : (F : Setting) {x y z w : Rust.Graph} → Ran F.reflexive add_missing_reflexive_vertices x y →
+    Ran F.symmetric add_missing_symmetric_vertices y z → Ran F.transitive add_missing_transitive_vertices z w →
+    (g : Graph) → HasGraph g x → HasGraph (add_missing_graph_vertices F g) w
 unfolding add_missing_graph_vertices
 ran_all F r s t g p = after t _ (after s _ (after r g p))
 
@@ -35,7 +36,7 @@ module _ (F : Setting) {g : Graph} {n : ℕ} {a : List ℕ} (d : Drawn g n a) wh
   unfolding initialize_graph_if_needed
   init_kept h = rw (ne_eqb g.worlds 0 (λ q. h (d.count ∙ q))) d
 
-  pub init_made : {b : List ℕ} → n ≡ 0 → ((h : Graph) → Drawn h 1 a → Drawn (add_missing_graph_vertices F h) 1 b) → Drawn (initialize_graph_if_needed F g) 1 b
+  pub init_made : {m : ℕ} {b : List ℕ} → n ≡ 0 → ((h : Graph) → Drawn h 1 a → Drawn (add_missing_graph_vertices F h) m b) → Drawn (initialize_graph_if_needed F g) m b
   unfolding initialize_graph_if_needed
   init_made z fill =
       let none : ℕ → ℕ → Bool = λ u v. false in
@@ -68,10 +69,10 @@ module _ (F : Setting) {g : Graph} {n : ℕ} {a : List ℕ} (d : Drawn g n a) wh
       outside true q false false t h = refl
       outside false q e s t h = refl
 
-  pub fork_made : (u : ℕ) {f : ℕ} {b c : List ℕ} → f ≡ min n 65535 → n < graph_width → ((e : ℕ → ℕ → Bool) → a ≡ grid e → b ≡ grid (cond (leb u f) (with_vertex e u f) e)) →
-      ((h : Graph) → Drawn h (n + 1) b → Drawn (add_missing_graph_vertices F h) (n + 1) c) → Drawn (fork F g u) (n + 1) c
+  pub fork_made : (u : ℕ) {f w m : ℕ} {b c : List ℕ} → f ≡ min n 65535 → n < graph_width → ((e : ℕ → ℕ → Bool) → a ≡ grid e → b ≡ grid (cond (leb u f) (with_vertex e u f) e)) →
+      w ≡ n → ((h : Graph) → Drawn h (w + 1) b → Drawn (add_missing_graph_vertices F h) m c) → Drawn (fork F g u) m c
   unfolding fork
-  fork_made u {f} m k put fill =
+  fork_made u {f} q k put e fill =
       let new : f ≡ n = omega arith in
-      fill _ (drawn_graph (n + 1) (suc g.worlds) (λ x y. edge g x y || (eqb x u && eqb y g.worlds)) (cond (leb u n) (with_vertex (edge g) u n) (edge g))
-      (omega (arith, d.count)) (omega arith) (forked_edge g.worlds u d.count) (put (edge g) d.cells ∙ rw new))
+      fill _ (rw e (drawn_graph (n + 1) (suc g.worlds) (λ x y. edge g x y || (eqb x u && eqb y g.worlds)) (cond (leb u n) (with_vertex (edge g) u n) (edge g))
+      (omega (arith, d.count)) (omega arith) (forked_edge g.worlds u d.count) (put (edge g) d.cells ∙ rw new)))

@@ -1,15 +1,15 @@
 -- Laws of a scan that adds, pair after pair, each edge that a rule gives, and of a search through the worlds.
-use Prim.Native.Nat.{ℕ, zero, suc, ◌+◌, ◌-◌, ◌*◌, ◌/◌, ◌%◌, ◌≤◌, ◌<◌}
+use Prim.Native.Nat.{ℕ, zero, suc, ◌+◌, ◌*◌, ◌/◌, ◌%◌, ◌≤◌, ◌<◌}
 use mathlib.Core.Path.{◌≡◌, refl, sym, ap, ◌∙◌}
 use mathlib.Core.Bool.{Bool, true, false, cond, ◌&&◌, ◌||◌, or-true, or-false}
 use mathlib.Core.Logic.{⊎_elim}
 use mathlib.Core.List.{List}
 use native.Mathlib.Numerals.{add-one}
 use native.Mathlib.Omega.{arith}
+use Rattle.std.specs.List.{list_any, range_with_len}
 use lib.Dec.{ltb, eqb}
 use borrow.Author.Tests.{ltb-true, ltb-false, eqb-true, eqb-false, lt-ltb, le-ltb}
 use Rattle.definition.specs.Limits.{graph_width}
-use Rattle.limits.specs.Arrays.{edge_cells}
 use Rattle.definition.specs.Lists.{any, up_from}
 use Rattle.definition.proofs.Basics.Lists.{either}
 use Rattle.graph.specs.Drawn.{grid, with_vertex}
@@ -65,7 +65,7 @@ module _ (e x : ℕ → ℕ → Bool) where
       scanned_out n u v (λ s. z) ∙ sym (ap (λ (b : Bool). e u v || b) z ∙ or-false (e u v)))
       (either (ltb (u * graph_width + v) n)))
 
-  -- a turn of the scan, from what `add_vertex_if` ensures
+  -- a turn of the scan, where the edge is added just if it is missing
   pub scan_next : (n u v : ℕ) (b : Bool) (a a' : List ℕ) → (u ≡ n / graph_width) × (v ≡ n % graph_width) → b ≡ x u v → a ≡ grid (scanned e x n) →
       ((d : ℕ → ℕ → Bool) → a ≡ grid d → a' ≡ grid (cond b (with_vertex d u v) d)) → a' ≡ grid (scanned e x (n + 1))
   scan_next n u v b a a' at q h put =
@@ -79,25 +79,13 @@ module _ (e x : ℕ → ℕ → Bool) where
       (λ k. there n u v s t b place (eqb-false (s * graph_width + t) n k))
       (either (eqb (s * graph_width + t) n)))
 
--- pair v of the row of u, of a graph of n worlds: what the lookup ensures
-module _ (u v : ℕ) {n a b : ℕ} (room : n ≤ graph_width) (hu : u < n) (hv : v < n) (at : u * graph_width + v < edge_cells → (a ≡ (u * graph_width + v) / graph_width) × (b ≡ (u * graph_width + v) % graph_width)) where
-  pub row_pair : (a ≡ u) × (b ≡ v)
-  row_pair = let p = at (omega arith) in (omega (arith, p.0), omega (arith, p.1))
-
-  pub at_row : (p : ℕ → Bool) {r : Bool} → r ≡ p b → r ≡ p v
-  at_row p e = e ∙ ap p row_pair.1
-
 -- ---- a search through the numbers below n
 module _ (p : ℕ → Bool) where
-  pub any_none : (n j : ℕ) → n ≤ j → any p (up_from (n - j) j) ≡ false
-  any_none n j h = let z : n - j ≡ 0 = omega arith in ap (λ (k : ℕ). any p (up_from k j)) z
-
-  pub any_hit : (n j : ℕ) → j < n → p j ≡ true → any p (up_from (n - j) j) ≡ true
-  any_hit n j h e = let z : n - j ≡ suc (n - (j + 1)) = omega arith in ap (λ (k : ℕ). any p (up_from k j)) z ∙ rw e
-
-  pub any_miss : (n j : ℕ) → j < n → p j ≡ false → any p (up_from (n - j) j) ≡ any p (up_from (n - (j + 1)) (j + 1))
-  any_miss n j h e = let z : n - j ≡ suc (n - (j + 1)) = omega arith in ap (λ (k : ℕ). any p (up_from k j)) z ∙ rw (e, add-one)
-
   pub any_false : (n i : ℕ) → ((v : ℕ) → i ≤ v → p v ≡ false) → any p (up_from n i) ≡ false
   any_false zero i h = refl
   any_false (suc n) i h = rw (h i (omega arith)) (any_false n (suc i) (λ v k. h v (omega arith)))
+
+  -- the test of the library's `any` over a range
+  pub any_range : (n i : ℕ) → list_any p (range_with_len i n) ≡ any p (up_from n i)
+  any_range zero i = refl
+  any_range (suc n) i = ap (λ (b : Bool). p i || b) (any_range n (i + 1) ∙ ap (λ (j : ℕ). any p (up_from n j)) (add-one i))

@@ -4,6 +4,7 @@ use Rattle.definition.specs.Limits.{graph_width}
 use Rattle.limits.specs.Arrays.{edge_cells}
 use Rattle.definition.specs.Lists.{below}
 use Rattle.definition.specs.Graph.{Graph, edge}
+use Rattle.graph.specs.declared.Graph as Rust
 
 abbrev pub flag : Bool → ℕ
 flag true = 1
@@ -23,3 +24,7 @@ pub record Drawn (g : Graph) (n : ℕ) (a : List ℕ) : Type 0 where
   pub room : n ≤ graph_width
   pub inside : (u v : ℕ) → edge g u v ≡ true → (u < n) × (v < n)
   pub cells : a ≡ grid (edge g)
+
+-- the struct holds the graph
+abbrev pub HasGraph : Graph → Rust.Graph → Type 0
+HasGraph g x = Drawn g x.worlds x.edges

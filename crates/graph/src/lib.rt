@@ -6,18 +6,14 @@ pub mod vertices;
 
 ghost use Rattle.std.specs.Prelude.{◌≡◌, Bool, ℕ, suc, min, ◌<◌, ◌≤◌, eqb};
 ghost use Rattle.definition.specs.Limits.{graph_width};
-ghost use Rattle.definition.specs.Graph.{Graph, edge, add_missing_graph_vertices, initialize_graph_if_needed, fork};
-ghost use Rattle.graph.specs.Drawn.{grid, with_vertex, Drawn};
+ghost use Rattle.definition.specs.Graph as D;
+ghost use Rattle.definition.specs.Graph.{edge, add_missing_graph_vertices, initialize_graph_if_needed, fork, empty_graph};
 ghost use Rattle.setting.specs.Asked.{asked};
 
-use limits::{Edges, GRAPH_WIDTH};
-use missing_vertices::{
-    add_missing_reflexive_vertices, add_missing_symmetric_vertices,
-    add_missing_transitive_vertices, add_vertex_if,
-};
+use limits::{EDGE_CELLS, GRAPH_WIDTH};
 use setting::Setting;
 
-#[derive(Clone, Copy)]
+#[derive(Clone, Copy, Debug, PartialEq, Eq)]
 pub struct PossibleWorld(pub u16);
 
 impl PossibleWorld {
@@ -30,115 +26,123 @@ impl PossibleWorld {
     fn fork(self) -> PossibleWorld
         ensures { result.0 ≡ min (suc self.0) 65535 }
     {
-        if self.0 == 65535 {
-            return PossibleWorld::NONE;
-        }
-        PossibleWorld(self.0 + 1)
-    }
-
-    // Whether they are the same world.
-    pub fn is(self, other: PossibleWorld) -> bool
-        ensures { result ≡ eqb self.0 other.0 }
-    {
-        self.0 == other.0
+        PossibleWorld(self.0.saturating_add(1))
     }
 }
 
 // An edge; the name is the Rust's.
-#[derive(Clone, Copy)]
+#[derive(Clone, Copy, Debug, PartialEq, Eq)]
 pub struct GraphVertex {
     pub from: PossibleWorld,
     pub to: PossibleWorld,
 }
 
-// Whether u reaches v.
-pub fn contains(edges: &Edges, u: PossibleWorld, v: PossibleWorld) -> bool
-    ensures { (g : Graph) (n : ℕ) → Drawn g n edges.now → result ≡ edge g u.0 v.0 }
-{
-    let from = u.0 as usize;
-    let to = v.0 as usize;
-    if GRAPH_WIDTH <= from {
-        return false;
-    }
-    if GRAPH_WIDTH <= to {
-        return false;
-    }
-    edges[from * GRAPH_WIDTH + to] == 1
+// The edges, a row of GRAPH_WIDTH flags for each world, and how many worlds there are.
+#[derive(Clone, Copy)]
+pub struct Graph {
+    pub edges: [u8; EDGE_CELLS],
+    pub worlds: usize,
 }
 
-// One edge more, where both worlds have a place.
-fn add_vertex(edges: &mut Edges, u: PossibleWorld, v: PossibleWorld)
-    ensures { (e : ℕ → ℕ → Bool) → edges.old ≡ grid e → edges.new ≡ grid (with_vertex e u.0 v.0) }
-{
-    let from = u.0 as usize;
-    let to = v.0 as usize;
-    if GRAPH_WIDTH <= from {
-        return;
-    }
-    if GRAPH_WIDTH <= to {
-        return;
-    }
-    edges[from * GRAPH_WIDTH + to] = 1;
-}
+impl Graph {
+    ghost use Rattle.graph.specs.Drawn.{grid, with_vertex, HasGraph};
 
-// The missing edges of a graph of so many worlds: reflexive, symmetric, transitive, each if flagged.
-fn add_missing_graph_vertices(edges: &mut Edges, worlds: usize, setting: Setting)
-    ensures { (g : Graph) → Drawn g worlds edges.old → Drawn (add_missing_graph_vertices (asked setting) g) worlds edges.new }
-{
-    if setting.is_reflexive {
-        add_missing_reflexive_vertices(edges, worlds);
+    // No world.
+    pub fn new() -> Self
+        ensures { HasGraph empty_graph result }
+    {
+        Graph {
+            edges: [0; EDGE_CELLS],
+            worlds: 0,
+        }
     }
-    if setting.is_symmetric {
-        add_missing_symmetric_vertices(edges, worlds);
-    }
-    if setting.is_transitive {
-        add_missing_transitive_vertices(edges, worlds);
-    }
-}
 
-// Puts world 0 in an empty graph. The count of worlds.
-pub fn initialize_graph_if_needed(edges: &mut Edges, worlds: usize, setting: Setting) -> usize
-    ensures { (g : Graph) → Drawn g worlds edges.old → Drawn (initialize_graph_if_needed (asked setting) g) result edges.new }
-{
-    if worlds != 0 {
-        return worlds;
+    // Whether u reaches v.
+    pub fn contains(&self, u: PossibleWorld, v: PossibleWorld) -> bool
+        ensures { (g : D.Graph) → HasGraph g self.now → result ≡ edge g u.0 v.0 }
+    {
+        let from = u.0 as usize;
+        let to = v.0 as usize;
+        if GRAPH_WIDTH <= from {
+            return false;
+        }
+        if GRAPH_WIDTH <= to {
+            return false;
+        }
+        self.edges[from * GRAPH_WIDTH + to] == 1
     }
-    add_missing_graph_vertices(edges, 1, setting);
-    1
-}
 
-// The world after the largest of these; world zero where there is none.
-pub fn forked_world(worlds: usize) -> PossibleWorld
-    ensures { result.0 ≡ min worlds 65535 }
-{
-    if worlds == 0 {
-        return PossibleWorld::ZERO;
+    // One edge more, where both worlds have a place.
+    fn add_vertex(&mut self, vertex: GraphVertex)
+        ensures { ((e : ℕ → ℕ → Bool) → self.old.edges ≡ grid e → self.new.edges ≡ grid (with_vertex e vertex.from.0 vertex.to.0)) × (self.new.worlds ≡ self.old.worlds) }
+    {
+        let from = vertex.from.0 as usize;
+        let to = vertex.to.0 as usize;
+        if GRAPH_WIDTH <= from {
+            return;
+        }
+        if GRAPH_WIDTH <= to {
+            return;
+        }
+        self.edges[from * GRAPH_WIDTH + to] = 1;
     }
-    if 65535 < worlds {
-        return PossibleWorld::NONE;
-    }
-    PossibleWorld((worlds - 1) as u16).fork()
-}
 
-// A new world, which u reaches, while there is room for one. The count of worlds.
-pub fn fork_world(edges: &mut Edges, worlds: usize, u: PossibleWorld, setting: Setting) -> usize
-    ensures { ((g : Graph) → worlds < graph_width → Drawn g worlds edges.old → Drawn (fork (asked setting) g u.0) result edges.new)
-        × (graph_width ≤ worlds → (result ≡ worlds) × (edges.new ≡ edges.old)) }
-{
-    if GRAPH_WIDTH <= worlds {
-        return worlds;
+    // The missing edges: reflexive, symmetric, transitive, each if flagged.
+    fn add_missing_graph_vertices(&mut self, setting: Setting)
+        ensures { (g : D.Graph) → HasGraph g self.old → HasGraph (add_missing_graph_vertices (asked setting) g) self.new }
+    {
+        if setting.is_reflexive {
+            self.add_missing_reflexive_vertices();
+        }
+        if setting.is_symmetric {
+            self.add_missing_symmetric_vertices();
+        }
+        if setting.is_transitive {
+            self.add_missing_transitive_vertices();
+        }
     }
-    let forked = forked_world(worlds);
-    // An edge runs between worlds of the graph.
-    let known = u.0 <= forked.0;
-    add_vertex_if(
-        edges,
-        GraphVertex {
-            from: u,
-            to: forked,
-        },
-        known,
-    );
-    add_missing_graph_vertices(edges, worlds + 1, setting);
-    worlds + 1
+
+    // Puts world 0 in an empty graph.
+    pub fn initialize_graph_if_needed(&mut self, setting: Setting)
+        ensures { (g : D.Graph) → HasGraph g self.old → HasGraph (initialize_graph_if_needed (asked setting) g) self.new }
+    {
+        if self.worlds != 0 {
+            return;
+        }
+        self.worlds = 1;
+        self.add_missing_graph_vertices(setting);
+    }
+
+    // The world after the largest of these; world zero where there is none.
+    pub fn forked_world(&self) -> PossibleWorld
+        ensures { result.0 ≡ min self.now.worlds 65535 }
+    {
+        if self.worlds == 0 {
+            return PossibleWorld::ZERO;
+        }
+        if 65535 < self.worlds {
+            return PossibleWorld::NONE;
+        }
+        PossibleWorld((self.worlds - 1) as u16).fork()
+    }
+
+    // A new world, which u reaches, while there is room for one.
+    pub fn fork_world(&mut self, u: PossibleWorld, setting: Setting)
+        ensures { ((g : D.Graph) → self.old.worlds < graph_width → HasGraph g self.old → HasGraph (fork (asked setting) g u.0) self.new)
+            × (graph_width ≤ self.old.worlds → self.new ≡ self.old) }
+    {
+        if GRAPH_WIDTH <= self.worlds {
+            return;
+        }
+        let forked = self.forked_world();
+        // An edge runs between worlds of the graph.
+        if u.0 <= forked.0 {
+            self.add_vertex(GraphVertex {
+                from: u,
+                to: forked,
+            });
+        }
+        self.worlds += 1;
+        self.add_missing_graph_vertices(setting);
+    }
 }

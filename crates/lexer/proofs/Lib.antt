@@ -1,4 +1,4 @@
-pub mod Coding
-pub mod Spelling
+pub mod Bytes
 pub mod Stepping
+pub mod Reading
 pub mod Scanning

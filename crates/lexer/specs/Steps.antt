@@ -1,14 +1,21 @@
--- The automaton of what can come next, on numbers.
-use Rattle.std.specs.Prelude.{◌≡◌, cond, ℕ, suc, ◌≤◌, eqb}
-use Rattle.std.proofs.Math.Option.{Option, none, some}
+-- The automaton of what can come next, in code.
+use Rattle.std.specs.Prelude.{◌≡◌, ℕ, Option, Some, None}
+use Rattle.std.proofs.Math.Option as M
 use Rattle.grammar.specs.Automaton.{State, fresh, operand, operator}
-use Rattle.lexer.specs.declared.Followed.{Followed}
+use Rattle.lexer.specs.declared.Awaited.{Awaited}
 
--- 0: a line begins; 1: an operand is wanted; else, what follows an operand
-unfoldable pub state_of : ℕ → ℕ → State
-state_of wants depth = cond (eqb wants 0) fresh (cond (eqb wants 1) (operand depth) (operator depth))
+abbrev pub state_of : Awaited → State
+state_of Awaited.Line = fresh
+state_of (Awaited.Operand depth) = operand depth
+state_of (Awaited.Operator depth) = operator depth
 
--- a step as numbers, at most one bracket deeper
-abbrev pub FollowedAs : Option State → ℕ → Followed → Type 0
-FollowedAs o depth Followed.Refused = o ≡ none
-FollowedAs o depth (Followed.To w d) = (o ≡ some (state_of w d)) × (d ≤ suc depth)
+-- how many brackets are open
+abbrev pub depth_of : Awaited → ℕ
+depth_of Awaited.Line = 0
+depth_of (Awaited.Operand depth) = depth
+depth_of (Awaited.Operator depth) = depth
+
+-- a step's answer
+abbrev pub FollowedAs : M.Option State → Option Awaited → Type 0
+FollowedAs o None = o ≡ M.none
+FollowedAs o (Some awaited) = o ≡ M.some (state_of awaited)

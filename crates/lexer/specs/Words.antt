@@ -1,47 +1,104 @@
--- What code has of a token, and what stands at a place of a list of codes.
-use Rattle.std.specs.Prelude.{◌≡◌, List, [], ◌∷◌, ℕ, ◌+◌, ◌<◌}
+-- What code has of a token, and what stands at a place of an array of tokens.
+use Rattle.std.specs.Prelude.{◌≡◌, List, [], ◌∷◌, ℕ, zero, suc, ◌+◌, ◌-◌, ◌<◌, get_or}
 use Rattle.definition.specs.Limits.{most_text}
-use Rattle.grammar.specs.Tokens.{Sign, Joint, Token, name, sign, joint, opening, closing, newline, invalid}
-use Rattle.lexer.specs.Codes.{sign_kind, joint_kind, token_of, tokens_from}
+use Rattle.definition.specs.Records.{Non, And, Or, Imply, BiImply, StrictImply, Possible, Necessary, number_of}
+use Rattle.grammar.specs.Tokens as G
+use Rattle.grammar.specs.Tokens.{Token, name, sign, joint, opening, closing, newline, invalid}
+use Rattle.lexer.specs.declared.Sign.{Sign}
+use Rattle.lexer.specs.declared.Joint.{Joint}
 use Rattle.lexer.specs.declared.Word.{Word}
 
-unfoldable pub word_of : Token → Word
+-- the numbers of the kinds
+abbrev pub sign_kind : Sign → ℕ
+sign_kind Sign.Non = number_of Non
+sign_kind Sign.Possible = number_of Possible
+sign_kind Sign.Necessary = number_of Necessary
+
+abbrev pub joint_kind : Joint → ℕ
+joint_kind Joint.And = number_of And
+joint_kind Joint.Or = number_of Or
+joint_kind Joint.Imply = number_of Imply
+joint_kind Joint.BiImply = number_of BiImply
+joint_kind Joint.StrictImply = number_of StrictImply
+
+-- the grammar's tokens in code
+abbrev pub sign_word : G.Sign → Sign
+sign_word G.Tilde = Sign.Non
+sign_word G.Diamond = Sign.Possible
+sign_word G.Box = Sign.Necessary
+
+abbrev pub joint_word : G.Joint → Joint
+joint_word G.Ampersand = Joint.And
+joint_word G.Bar = Joint.Or
+joint_word G.Arrow = Joint.Imply
+joint_word G.Both = Joint.BiImply
+joint_word G.Double = Joint.StrictImply
+
+abbrev pub word_of : Token → Word
 word_of (name a) = Word.Name a
-word_of (sign s) = Word.Sign (sign_kind s)
-word_of (joint j) = Word.Joint (joint_kind j)
+word_of (sign s) = Word.Sign (sign_word s)
+word_of (joint j) = Word.Joint (joint_word j)
 word_of opening = Word.Opening
 word_of closing = Word.Closing
 word_of newline = Word.Newline
 word_of invalid = Word.Invalid
 
+-- and back; the end is no token
+abbrev pub sign_of : Sign → G.Sign
+sign_of Sign.Non = G.Tilde
+sign_of Sign.Possible = G.Diamond
+sign_of Sign.Necessary = G.Box
+
+abbrev pub joint_of : Joint → G.Joint
+joint_of Joint.And = G.Ampersand
+joint_of Joint.Or = G.Bar
+joint_of Joint.Imply = G.Arrow
+joint_of Joint.BiImply = G.Both
+joint_of Joint.StrictImply = G.Double
+
+abbrev pub token_of : Word → Token
+token_of Word.End = invalid
+token_of (Word.Name a) = name a
+token_of (Word.Sign s) = sign (sign_of s)
+token_of (Word.Joint j) = joint (joint_of j)
+token_of Word.Opening = opening
+token_of Word.Closing = closing
+token_of Word.Newline = newline
+token_of Word.Invalid = invalid
+
+-- a word before others: the end cuts them off
+abbrev pub before : Word → List Token → List Token
+before Word.End rest = []
+before (Word.Name a) rest = name a ∷ rest
+before (Word.Sign s) rest = sign (sign_of s) ∷ rest
+before (Word.Joint j) rest = joint (joint_of j) ∷ rest
+before Word.Opening rest = opening ∷ rest
+before Word.Closing rest = closing ∷ rest
+before Word.Newline rest = newline ∷ rest
+before Word.Invalid rest = invalid ∷ rest
+
+-- the tokens from a place on, up to the first end, and no more than n
+unfoldable pub tokens_within : ℕ → List Word → ℕ → List Token
+tokens_within zero words at = []
+tokens_within (suc n) words at =
+    let rest = tokens_within n words (suc at) in
+    before (get_or words at Word.End) rest
+
+abbrev pub tokens_from : List Word → ℕ → List Token
+tokens_from words at = tokens_within (most_text - at) words at
+
 -- the tokens from the place on are t and those from the next place on
-pub record Spot (codes : List ℕ) (at : ℕ) (t : Token) : Type 0 where
+pub record Spot (words : List Word) (at : ℕ) (t : Token) : Type 0 where
   pub inside : at < most_text
-  pub is : tokens_from codes at ≡ t ∷ tokens_from codes (at + 1)
+  pub is : tokens_from words at ≡ t ∷ tokens_from words (at + 1)
 
 -- what a word says of a place
-abbrev pub Stands : List ℕ → ℕ → Word → Type 0
-Stands codes at Word.End = tokens_from codes at ≡ []
-Stands codes at (Word.Name a) = Spot codes at (name a)
-Stands codes at (Word.Sign k) = (s : Sign) × (k ≡ sign_kind s) × Spot codes at (sign s)
-Stands codes at (Word.Joint k) = (j : Joint) × (k ≡ joint_kind j) × Spot codes at (joint j)
-Stands codes at Word.Opening = Spot codes at opening
-Stands codes at Word.Closing = Spot codes at closing
-Stands codes at Word.Newline = Spot codes at newline
-Stands codes at Word.Invalid = Spot codes at invalid
-
--- a code that is not 0 stands for a token
-pub record Codes (c : ℕ) (t : Token) : Type 0 where
-  pub some : c ≡ 0 → ⊥
-  pub is : token_of c ≡ t
-
--- a code as a word
-abbrev pub Coded : ℕ → Word → Type 0
-Coded c Word.End = c ≡ 0
-Coded c (Word.Name a) = Codes c (name a)
-Coded c (Word.Sign k) = (s : Sign) × (k ≡ sign_kind s) × Codes c (sign s)
-Coded c (Word.Joint k) = (j : Joint) × (k ≡ joint_kind j) × Codes c (joint j)
-Coded c Word.Opening = Codes c opening
-Coded c Word.Closing = Codes c closing
-Coded c Word.Newline = Codes c newline
-Coded c Word.Invalid = Codes c invalid
+abbrev pub Stands : List Word → ℕ → Word → Type 0
+Stands words at Word.End = tokens_from words at ≡ []
+Stands words at (Word.Name a) = Spot words at (name a)
+Stands words at (Word.Sign s) = Spot words at (sign (sign_of s))
+Stands words at (Word.Joint j) = Spot words at (joint (joint_of j))
+Stands words at Word.Opening = Spot words at opening
+Stands words at Word.Closing = Spot words at closing
+Stands words at Word.Newline = Spot words at newline
+Stands words at Word.Invalid = Spot words at invalid

@@ -1,4 +1,4 @@
-// The numbers of definition/specs/Limits and specs/RefusalNumbers under the same names, the lengths of specs/Arrays, and a type for each array that is lent.
+// The numbers of definition/specs/Limits under the same names, the lengths of specs/Arrays, and a type for each array that is lent.
 #![tactic(auto)]
 
 pub const RECORD_LENGTH: usize = 6;
@@ -43,8 +43,6 @@ pub const EDGE_TRAY_LENGTH: usize = GRAPH_WIDTH;
 
 pub const MOST_TEXT: usize = 4096;
 
-pub const LARGEST_ATOM: u32 = 65535;
-
 pub const TEXT_TRAY_LENGTH: usize = RECORD_LENGTH * MOST_TEXT;
 
 pub const NODE_FIELDS: usize = 9;
@@ -71,52 +69,8 @@ pub const LEAF_COUNT: usize = MOST_IDENTIFIERS * MOST_IDENTIFIERS;
 
 pub const LEAF_WORDS: usize = MOST_IDENTIFIERS * ROW_WORDS;
 
-// The refusals' numbers.
-pub const PARTIAL_RECORD: u16 = 1;
-
-pub const NO_RECORD: u16 = 2;
-
-pub const TOO_MANY_RECORDS: u16 = 3;
-
-pub const UNKNOWN_FLAG: u16 = 4;
-
-pub const TRAY_TOO_SHORT: u16 = 5;
-
-pub const UNKNOWN_KIND: u16 = 6;
-
-pub const BAD_MARK_OR_FIELD: u16 = 7;
-
-pub const FORWARD_LINK: u16 = 8;
-
-pub const FORMULA_TOO_LARGE: u16 = 9;
-
-pub const NO_MARKED_RECORD: u16 = 10;
-
-pub const TOO_MANY_MARKED: u16 = 11;
-
-pub const TOO_MANY_IDENTIFIERS: u16 = 12;
-
-pub const UNREADABLE_TEXT: u16 = 13;
-
-pub const TEXT_TOO_LONG: u16 = 14;
-
 // The expanded sizes of a branch's records.
 pub type RecordSizes = [u16; MOST_RECORDS];
-
-// A list of identifiers or worlds, from its first entry on.
-pub type Numbers = [u16; MOST_IDENTIFIERS];
-
-// The nodes, a row of NODE_FIELDS numbers each.
-pub type Nodes = [u16; NODE_CELLS];
-
-// The formulas, a row of FORMULA_FIELDS numbers each.
-pub type Formulas = [u16; FORMULA_CELLS];
-
-// The edges, a row of GRAPH_WIDTH flags for each world.
-pub type Edges = [u8; EDGE_CELLS];
-
-// The stored necessities, a row of NECESSITY_FIELDS numbers each, from the bottom of the stack to the top.
-pub type Necessities = [u32; NECESSITY_CELLS];
 
 // The leaves of the stored necessities, a row of MOST_IDENTIFIERS bits each.
 pub type Leaves = [u32; LEAF_WORDS];
@@ -124,16 +78,5 @@ pub type Leaves = [u32; LEAF_WORDS];
 // A word of worlds for each node: bit v is world v.
 pub type Worlds = [u32; MOST_IDENTIFIERS];
 
-// Subtrees that are to be placed, a row of ITEM_FIELDS numbers each.
-pub type Items = [u16; ITEM_CELLS];
-
-// The identifiers that wait, in the order in which they were queued.
-pub type Waiting = Numbers;
-
-// The classes of those that wait, in the same order.
-pub type Classes = Numbers;
-
-// A text's tokens, one place each, and its records as bytes.
-pub type Tokens = [u32; MOST_TEXT];
-
+// A text's records as bytes.
 pub type TextRecords = [u8; TEXT_TRAY_LENGTH];

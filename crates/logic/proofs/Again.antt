@@ -13,11 +13,13 @@ use Rattle.definition.specs.Tree.{Node}
 use Rattle.definition.specs.Subtree.{Targeted}
 use Rattle.definition.specs.Modality.{Necessity, Fork, Reapplication, visiting, is_reapplied, reapply_if_on_path, reapply_necessity_after_possibility, necessities_after_possibility}
 use Rattle.definition.proofs.Basics.Lists.{each_get}
-use Rattle.tree.specs.Lay.{Held}
+use Rattle.tree.specs.Lay.{HasNodes}
+use Rattle.tree.specs.declared.ProofTree.{ProofTree}
 use Rattle.tree.proofs.Nodes.{held_long, held_as}
-use Rattle.necessities.specs.Stack.{Stack}
+use Rattle.necessities.specs.Stack.{HasStack}
+use Rattle.necessities.specs.declared.Necessities.{Necessities}
 use Rattle.subtree.specs.Items.{Item, Listing}
-use Rattle.subtree.specs.declared.Counts.{Counts}
+use Rattle.subtree.specs.declared.Items.{Items}
 use Rattle.logic.specs.Gave.{Gave}
 use Rattle.logic.proofs.Listings.{listing_both}
 
@@ -44,6 +46,12 @@ mapped_set f zero (n ∷ ns) none h = refl
 mapped_set f (suc i) [] none h = absurd (omega arith)
 mapped_set f (suc i) (n ∷ ns) none h = ap (λ (l : List Necessity). f n ∷ l) (mapped_set f i ns none (omega arith))
 
+pub mapped_length : (f : Necessity → Necessity) (i : ℕ) (ns : List Necessity) → length (mapped f i ns) ≡ length ns
+unfolding mapped
+mapped_length f zero ns = refl
+mapped_length f (suc i) [] = refl
+mapped_length f (suc i) (n ∷ ns) = omega (arith, mapped_length f i ns)
+
 mapped_all : (f : Necessity → Necessity) (ns : List Necessity) → mapped f (length ns) ns ≡ map f ns
 unfolding mapped
 mapped_all f [] = refl
@@ -56,42 +64,52 @@ module _ (t : List Node) (g : Graph) (fk : Fork) where
   abbrev left : List Node → List Necessity → Reapplication
   left more rest = reapply_necessity_after_possibility t g fk (length (t ++ more)) rest
 
-  -- the first i are done
-  pub record Again (ns : List Necessity) (goal : List Node) (rs : List Item) (subtrees : List Targeted) (c i : ℕ) (r : Counts) (ta ia na la : List ℕ) : Type 0 where
+  -- the first i are done, and k are left
+  pub record Again (ns : List Necessity) (goal : List Node) (rs : List Item) (subtrees : List Targeted) (k : ℕ) (u : ProofTree) (x : Items) (w : Necessities) : Type 0 where
+    pub i : ℕ
+    pub left_over : i + k ≡ length ns
     pub more : List Node
     pub done : List Targeted
-    pub held : Held (t ++ more) r.nodes ta
+    pub held : HasNodes (t ++ more) u
     pub nodes : (t ++ more) ++ (left more (drop i ns)).nodes ≡ goal
     pub items : done ++ (left more (drop i ns)).subtrees ≡ subtrees
-    pub rows : r.nodes ≤ most_identifiers → Listing rs done r.listed r.nodes ia
-    pub stack : r.nodes ≤ most_identifiers → Stack (mapped after i ns) c na la
+    pub rows : u.len ≤ most_identifiers → Listing rs done x u.len
+    pub stack : u.len ≤ most_identifiers → HasStack (mapped after i ns) w
 
-  pub again_start : (more : List Node) (ns : List Necessity) (rs : List Item) {c : ℕ} (r : Counts) {ta ia na la : List ℕ} → Stack ns c na la → Held (t ++ more) r.nodes ta →
-      (r.nodes ≤ most_identifiers → Listing rs [] r.listed r.nodes ia) → Again ns ((t ++ more) ++ (left more ns).nodes) rs (left more ns).subtrees c 0 r ta ia na la
+  pub again_start : (more : List Node) (ns : List Necessity) (rs : List Item) {u : ProofTree} {x : Items} {w : Necessities} → HasStack ns w → HasNodes (t ++ more) u →
+      (u.len ≤ most_identifiers → Listing rs [] x u.len) → Again ns ((t ++ more) ++ (left more ns).nodes) rs (left more ns).subtrees w.count u x w
   unfolding mapped
-  again_start more ns rs r s h l = record { more = more; done = []; held = h; nodes = refl; items = refl; rows = l; stack = λ _. s }
+  again_start more ns rs s h l = record { i = 0; left_over = omega (arith, s.counted); more = more; done = []; held = h; nodes = refl; items = refl; rows = l; stack = λ _. s }
 
-  module _ {ns : List Necessity} {goal : List Node} {rs : List Item} {subtrees : List Targeted} {c i : ℕ} {r : Counts} {ta ia na la : List ℕ} (z : Again ns goal rs subtrees c i r ta ia na la) where
+  module _ {ns : List Necessity} {goal : List Node} {rs : List Item} {subtrees : List Targeted} {k : ℕ} {u : ProofTree} {x : Items} {w : Necessities} (z : Again ns goal rs subtrees k u x w) where
     -- full
-    pub again_full : most_identifiers < r.nodes → Held goal r.nodes ta
-    again_full big = held_long goal z.held big (omega (arith, ap length z.nodes, length-append (t ++ z.more) (left z.more (drop i ns)).nodes))
+    pub again_full : most_identifiers < u.len → HasNodes goal u
+    again_full big = held_long goal z.held big (omega (arith, ap length z.nodes, length-append (t ++ z.more) (left z.more (drop z.i ns)).nodes))
 
-    pub again_next : (none : Necessity) → i < length ns → (small : r.nodes ≤ most_identifiers) {r' : Counts} {tb ib nb : List ℕ} → let m = mapped after i ns in
-        Gave (t ++ z.more) (z.rows small).all (reapply_if_on_path t g fk (length (t ++ z.more)) (get_or m i none)) r' tb ib →
-        (r'.nodes ≤ most_identifiers → Stack (set m i (after (get_or m i none))) c nb la) → Again ns goal rs subtrees c (i + 1) r' tb ib nb la
+    -- the place of the next one in the stack
+    pub again_at : (small : u.len ≤ most_identifiers) → (j : ℕ) → j + 1 ≡ k → z.i + j + 1 ≡ w.count
+    again_at small j e = omega (arith, e, z.left_over, (z.stack small).counted, mapped_length after z.i ns)
+
+    pub again_next : (none : Necessity) (j : ℕ) → j + 1 ≡ k → (small : u.len ≤ most_identifiers) {u' : ProofTree} {x' : Items} {w' : Necessities} → let m = mapped after z.i ns in
+        Gave (t ++ z.more) (z.rows small).all (reapply_if_on_path t g fk (length (t ++ z.more)) (get_or m z.i none)) u' x' →
+        (u'.len ≤ most_identifiers → HasStack (set m z.i (after (get_or m z.i none))) w') → Again ns goal rs subtrees j u' x' w'
     unfolding reapply_necessity_after_possibility
-    again_next none low small {r'} {tb} {ib} {nb} gave stack =
+    again_next none j last small {u'} {x'} {w'} gave stack =
+        let i = z.i in
+        let low : i < length ns = omega (arith, last, z.left_over) in
         let o : suc i ≡ i + 1 = omega arith in
         let n = get_or ns i none in
         let e : get_or (mapped after i ns) i none ≡ n = mapped_at after i ns none in
         let d : drop i ns ≡ n ∷ drop (i + 1) ns = drop-cons ns i none low ∙ ap (λ (k : ℕ). n ∷ drop k ns) o in
         let base = t ++ z.more in
         let one = reapply_if_on_path t g fk (length base) n in
-        let got = subst (λ (k : Necessity). Gave base (z.rows small).all (reapply_if_on_path t g fk (length base) k) r' tb ib) e gave in
+        let got = subst (λ (k : Necessity). Gave base (z.rows small).all (reapply_if_on_path t g fk (length base) k) u' x') e gave in
         let assoc : base ++ one.nodes ≡ t ++ (z.more ++ one.nodes) = append_assoc t z.more one.nodes in
         let len : length base + length one.nodes ≡ length (t ++ (z.more ++ one.nodes)) = omega (arith, length-append base one.nodes, ap length assoc) in
         let later = left (z.more ++ one.nodes) (drop (i + 1) ns) in
         record {
+          i = i + 1;
+          left_over = omega (arith, last, z.left_over);
           more = z.more ++ one.nodes;
           done = z.done ++ one.subtrees;
           held = held_as (t ++ (z.more ++ one.nodes)) assoc got.nodes;
@@ -103,21 +121,21 @@ module _ (t : List Node) (g : Graph) (fk : Fork) where
               ∙ ap (λ (l : List Necessity). z.done ++ (left z.more l).subtrees) (sym d) ∙ z.items;
           rows = λ fits. listing_both z.done one.subtrees (z.rows small) (got.rows fits);
           stack = λ fits.
-              subst (λ (l : List Necessity). Stack l c nb la) (ap (λ (k : Necessity). set (mapped after i ns) i (after k)) e ∙ mapped_set after i ns none low ∙ ap (λ (k : ℕ). mapped after k ns) o) (stack fits);
+              subst (λ (l : List Necessity). HasStack l w') (ap (λ (k : Necessity). set (mapped after i ns) i (after k)) e ∙ mapped_set after i ns none low ∙ ap (λ (k : ℕ). mapped after k ns) o) (stack fits);
         }
 
-    pub again_end : c ≤ i → length ns ≡ c → i ≤ c → Held goal r.nodes ta × (r.nodes ≤ most_identifiers → Listing rs subtrees r.listed r.nodes ia) × (r.nodes ≤ most_identifiers → Stack (map after ns) c na la)
+    pub again_end : k ≡ 0 → HasNodes goal u × (u.len ≤ most_identifiers → Listing rs subtrees x u.len) × (u.len ≤ most_identifiers → HasStack (map after ns) w)
     unfolding reapply_necessity_after_possibility
-    again_end past count low =
-        let b : length ns ≤ i = omega (arith, past, count) in
-        let d : drop i ns ≡ [] = drop_of_length-le ns b in
-        let e : i ≡ length ns = omega (arith, past, low, count) in (
+    again_end none =
+        let i = z.i in
+        let e : i ≡ length ns = omega (arith, none, z.left_over) in
+        let d : drop i ns ≡ [] = drop_of_length-le ns (omega (arith, e)) in (
           held_as goal (sym (append-nil (t ++ z.more)) ∙ ap (λ (l : List Necessity). (t ++ z.more) ++ (left z.more l).nodes) (sym d) ∙ z.nodes) z.held,
-          λ fits. subst (λ (l : List Targeted). Listing rs l r.listed r.nodes ia) (sym (append-nil z.done) ∙ ap (λ (l : List Necessity). z.done ++ (left z.more l).subtrees) (sym d) ∙ z.items) (z.rows fits),
-          λ fits. subst (λ (l : List Necessity). Stack l c na la) (ap (λ (k : ℕ). mapped after k ns) e ∙ mapped_all after ns) (z.stack fits),
+          λ fits. subst (λ (l : List Targeted). Listing rs l x u.len) (sym (append-nil z.done) ∙ ap (λ (l : List Necessity). z.done ++ (left z.more l).subtrees) (sym d) ∙ z.items) (z.rows fits),
+          λ fits. subst (λ (l : List Necessity). HasStack l w) (ap (λ (k : ℕ). mapped after k ns) e ∙ mapped_all after ns) (z.stack fits),
         )
 
-  pub turned_after : (ns : List Necessity) {c : ℕ} {na la : List ℕ} → Stack (reverse (map after ns)) c na la → Stack (necessities_after_possibility t g fk ns) c na la
+  pub turned_after : (ns : List Necessity) {w : Necessities} → HasStack (reverse (map after ns)) w → HasStack (necessities_after_possibility t g fk ns) w
   unfolding necessities_after_possibility
   turned_after ns s = s
 

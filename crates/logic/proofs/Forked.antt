@@ -5,11 +5,10 @@ use mathlib.Core.List.{List, [], ◌∷◌, ◌++◌, append_assoc}
 use mathlib.Core.Option.{some}
 use mathlib.Core.Logic.{◌⊎◌, inl, inr}
 use native.Mathlib.Omega.{arith}
-use lib.ListN.{length, replicate, length-append}
+use lib.ListN.{length, length-append}
 use Rattle.definition.specs.Limits.{most_identifiers, graph_width}
-use Rattle.limits.specs.Arrays.{item_cells}
-use Rattle.limits.specs.Lent.{Lent}
-use Rattle.arrays.specs.Listed.{Listed}
+use Rattle.arrays.specs.Listed.{HasList}
+use Rattle.arrays.specs.declared.Numbers.{Numbers}
 use Rattle.arrays.proofs.Listed.{listed_fits}
 use Rattle.definition.specs.Lists.{Each}
 use Rattle.definition.specs.Setting.{Setting}
@@ -26,53 +25,55 @@ use Rattle.definition.specs.TreeShape.{Treed, TreedThroughout}
 use Rattle.definition.proofs.Tree.Shape.{leaves_few, leaves_within}
 use Rattle.definition.proofs.Run.TreeKept.{rule_steady}
 use Rattle.definition.proofs.Tree.Nodes.{ext_subtree, ext_result}
-use Rattle.graph.specs.Drawn.{Drawn}
-use Rattle.tree.specs.Lay.{Held, held}
+use Rattle.graph.specs.Drawn.{HasGraph}
+use Rattle.graph.specs.declared.Graph as Rust
+use Rattle.tree.specs.Lay.{Held, Laid, HasNodes, held}
+use Rattle.tree.specs.declared.ProofTree.{ProofTree}
 use Rattle.tree.specs.Chain.{chain_of, falling_chain, empty_chain}
 use Rattle.tree.specs.Sequence.{id_at}
 use Rattle.tree.proofs.Sequence.{id_fits}
 use Rattle.tree.proofs.Paths.{listed_as, leaves_as}
 use Rattle.tree.proofs.Nodes.{held_ok, held_fits, held_as}
 use Rattle.subtree.specs.declared.ProofSubtree.{ProofSubtree}
-use Rattle.subtree.specs.declared.Counts.{Counts}
+use Rattle.subtree.specs.declared.Items.{Items}
 use Rattle.subtree.specs.Subtree.{subtree_of, Within, Chained, Left}
-use Rattle.subtree.specs.Items.{Listing}
-use Rattle.subtree.proofs.Items.{rows_none}
+use Rattle.subtree.specs.Items.{HasItems, Listing}
 use Rattle.subtree.proofs.Placing.{left_as}
+use Rattle.necessities.specs.Stack.{HasStack}
 use Rattle.modality.specs.Seen.{Seen}
-use Rattle.logic.specs.declared.Progress.{Progress}
+use Rattle.logic.specs.declared.Tableau.{Tableau}
 use Rattle.logic.specs.Gave.{Gave}
-use Rattle.logic.specs.Applied.{Stacked, Before, After, Passed}
+use Rattle.logic.specs.Applied.{Before, After}
 use Rattle.logic.proofs.Listings.{listing_more}
 
 -- the comment stands above
-pub commented : (start : ℕ) →
-    subtree_of (record { left = empty_chain; middle = falling_chain start 2; right = empty_chain }) ≡ with_middle (suc start ∷ start ∷ [])
+pub commented : (s : ProofSubtree) (start : ℕ) → s.left ≡ empty_chain → s.middle ≡ falling_chain start 2 → s.right ≡ empty_chain
+    → (subtree_of s ≡ with_middle (suc start ∷ start ∷ [])) × ((m : ℕ) → start + 2 ≤ m → Within s m)
 unfolding subtree_of chain_of
-commented start = refl
+commented s start l m r = rw (l, m, r) (refl, λ n h. record { on_left = omega arith; on_middle = h; on_right = omega arith })
 
-pub two_nodes : (ns : List Node) (a b : Node) {r : ℕ} {ta : List ℕ} → Held ((ns ++ (a ∷ [])) ++ (b ∷ [])) r ta → Held (ns ++ (a ∷ b ∷ [])) r ta
+pub two_nodes : (ns : List Node) (a b : Node) {len : ℕ} {cells : List ℕ} → Held ((ns ++ (a ∷ [])) ++ (b ∷ [])) len cells → Held (ns ++ (a ∷ b ∷ [])) len cells
 two_nodes ns a b h = held_as (ns ++ (a ∷ b ∷ [])) (append_assoc ns (a ∷ []) (b ∷ [])) h
 
 -- what placing the subtrees of a list says
-abbrev pub Places : (made : Counts) (n : ℕ) (r : Counts) (ta wa ia tb wb : List ℕ) → Type 0
-Places made n r ta wa ia tb wb =
-    (ns : List Node) (q : List ℕ) (is : List Targeted) → Held ns made.nodes ta → (made.nodes ≤ most_identifiers → Listed q n wa) → (made.nodes ≤ most_identifiers → Listing [] is made.listed (length ns) ia) →
-    TreedThroughout ns q is → Left (append_logic_rule_result ns q is) r tb wb
+abbrev pub Places : Items → ProofTree → Numbers → ProofTree → Numbers → Type 0
+Places x u w u' w' =
+    (ns : List Node) (q : List ℕ) (is : List Targeted) → HasNodes ns u → (u.len ≤ most_identifiers → HasList q w) → (u.len ≤ most_identifiers → Listing [] is x (length ns)) →
+    TreedThroughout ns q is → Left (append_logic_rule_result ns q is) u' w'
 
 -- the items of a fork
 abbrev pub fork_item : ℕ → ℕ → Targeted
 fork_item x base = record { target = x; subtree = with_middle (suc base ∷ base ∷ []) }
 
 -- the fork's own subtree placed, and then the others
-pub fork_placed : (ns : List Node) (q : List ℕ) (more : List Targeted) (x base : ℕ) (s : ProofSubtree) {len n items : ℕ} {ta tb tc wa wb wc ia : List ℕ} {top r : Counts} →
-    (id : ℕ) → Held ns len ta → Listed q n wa → (len ≤ most_identifiers → id ≡ base) → base + 2 ≤ length ns → (len ≤ most_identifiers → Listing [] more items len ia) → TreedThroughout ns q (fork_item x base ∷ more) →
+pub fork_placed : (ns : List Node) (q : List ℕ) (more : List Targeted) (x base : ℕ) (s : ProofSubtree) (items : Items) (u u₁ u₂ : ProofTree) (w w₁ w₂ : Numbers) →
+    (id : ℕ) → HasNodes ns u → HasList q w → (u.len ≤ most_identifiers → id ≡ base) → base + 2 ≤ length ns → (u.len ≤ most_identifiers → Listing [] more items u.len) → TreedThroughout ns q (fork_item x base ∷ more) →
     (subtree_of s ≡ with_middle (suc id ∷ id ∷ [])) × ((m : ℕ) → id + 2 ≤ m → Within s m) →
-    ((ns : List Node) (q : List ℕ) (t : Subtree) → Held ns len ta → (len ≤ most_identifiers → Listed q n wa) → (length ns ≤ most_identifiers → Chained s t (length ns)) → (length ns ≤ most_identifiers → Treed ns) → Left (append_subtree ns q x t) top tb wb) →
-    Places (record { nodes = top.nodes; listed = items }) top.listed r tb wb ia tc wc →
-    Left (append_logic_rule_result ns q (fork_item x base ∷ more)) r tc wc
+    ((ns : List Node) (q : List ℕ) (t : Subtree) → HasNodes ns u → (u.len ≤ most_identifiers → HasList q w) → (length ns ≤ most_identifiers → Chained s t (length ns)) → (length ns ≤ most_identifiers → Treed ns) → Left (append_subtree ns q x t) u₁ w₁) →
+    Places items u₁ w₁ u₂ w₂ →
+    Left (append_logic_rule_result ns q (fork_item x base ∷ more)) u₂ w₂
 unfolding append_logic_rule_result
-fork_placed ns q more x base s id h l at low list st comment one rest =
+fork_placed ns q more x base s items u u₁ u₂ w w₁ w₂ id h l at low list st comment one rest =
     let t = with_middle (suc base ∷ base ∷ []) in
     let p = append_subtree ns q x t in
     let long = (ext_subtree ns q x t).longer in
@@ -83,19 +84,11 @@ fork_placed ns q more x base s id h l at low list st comment one rest =
     let small = held_fits h (omega (arith, (held_ok first.nodes fits).0, fits, long)) in
     listing_more (omega (arith, (held_ok h small).0, long)) (list small)) st.1
 
--- the counts that a rule leaves alone
-pub passed : (p : Progress) {n w c k : ℕ} → Passed p (record { formulas = p.formulas; nodes = n; worlds = w; necessities = c; waiting = k; steps = p.steps; proved = p.proved })
-passed p = record { formulas = refl; steps = refl; proved = refl }
-
--- how many nodes there are, and how many wait
-abbrev pub placed_of : Progress → Counts
-placed_of p = record { nodes = p.nodes; listed = p.waiting }
-
 -- the graph has room for one world more
-pub known_few : (F : Setting) (g : Graph) {n m : ℕ} {a b : List ℕ} → Drawn g n a → n < graph_width → Drawn (initialize_graph_if_needed F g) m b → m < graph_width
-known_few F g {n} {m} d few k = go (init_less F g)
+pub known_few : (F : Setting) (g : Graph) {before after : Rust.Graph} → HasGraph g before → before.worlds < graph_width → HasGraph (initialize_graph_if_needed F g) after → after.worlds < graph_width
+known_few F g {before} {after} d few k = go (init_less F g)
   where
-    go : (g.worlds ≡ 0) ⊎ ((initialize_graph_if_needed F g).worlds ≡ g.worlds) → m < graph_width
+    go : (g.worlds ≡ 0) ⊎ ((initialize_graph_if_needed F g).worlds ≡ g.worlds) → after.worlds < graph_width
     go (inl e) = omega (arith, init_one F g e, k.count)
     go (inr e) = omega (arith, e, k.count, d.count, few)
 
@@ -112,26 +105,26 @@ module _ (F : Setting) (s : State) (x : ℕ) (recs : List Rec) (f : ℕ) (q : Li
   abbrev pub both : List Node
   both = new_node x f (forked_world g₀) ∷ new_node x nobody 0 ∷ []
 
-  pub possibility_after : {p : Progress} {made : Counts} {base id n : ℕ} {ta wa ia : List ℕ} {B : Lent} → length s.nodes ≡ base →
-      Gave (s.nodes ++ both) [] (reapply_necessity_after_possibility s.nodes forked forking (length (s.nodes ++ both)) s.necessities) made ta ia →
-      (made.nodes ≤ most_identifiers → Stacked (necessities_after_possibility s.nodes forked forking s.necessities) p.necessities B) → Drawn forked p.worlds B.edges → Listed q n wa → Treed s.nodes →
+  pub possibility_after : {base id : ℕ} {u : ProofTree} {items : Items} {w : Numbers} {B : Tableau} → length s.nodes ≡ base →
+      Gave (s.nodes ++ both) [] (reapply_necessity_after_possibility s.nodes forked forking (length (s.nodes ++ both)) s.necessities) u items →
+      (u.len ≤ most_identifiers → HasStack (necessities_after_possibility s.nodes forked forking s.necessities) B.necessities) → HasGraph forked B.graph → HasList q w → Treed s.nodes →
       id ≡ id_at base →
-      ((ns : List Node) (q : List ℕ) (more : List Targeted) (k : ℕ) → Held ns made.nodes ta → Listed q n wa → (made.nodes ≤ most_identifiers → id ≡ k) → k + 2 ≤ length ns → (made.nodes ≤ most_identifiers → Listing [] more made.listed made.nodes ia) →
+      ((ns : List Node) (q : List ℕ) (more : List Targeted) (k : ℕ) → HasNodes ns u → HasList q w → (u.len ≤ most_identifiers → id ≡ k) → k + 2 ≤ length ns → (u.len ≤ most_identifiers → Listing [] more items u.len) →
       TreedThroughout ns q (fork_item x k ∷ more) →
-      Left (append_logic_rule_result ns q (fork_item x k ∷ more)) (placed_of p) B.nodes B.waiting) →
-      After p B s q (apply_possibility F s x recs f)
+      Left (append_logic_rule_result ns q (fork_item x k ∷ more)) B.tree B.waiting) →
+      After B s q (apply_possibility F s x recs f)
   unfolding apply_rule apply_possibility
-  possibility_after {made = made} {base} {id} {ta = ta} {ia = ia} e gave stack d l tree drawn place =
+  possibility_after {base} {id} {u} {items} e gave stack d l tree drawn place =
       let n = length s.nodes in
       let two : length (s.nodes ++ both) ≡ n + 2 = length-append s.nodes both in
       let R = reapply_necessity_after_possibility s.nodes forked forking (n + 2) s.necessities in
-      let got = subst (λ (k : ℕ). Gave (s.nodes ++ both) [] (reapply_necessity_after_possibility s.nodes forked forking k s.necessities) made ta ia) two gave in
+      let got = subst (λ (k : ℕ). Gave (s.nodes ++ both) [] (reapply_necessity_after_possibility s.nodes forked forking k s.necessities) u items) two gave in
       let assoc : (s.nodes ++ both) ++ R.nodes ≡ s.nodes ++ (both ++ R.nodes) = append_assoc s.nodes both R.nodes in
       let all = s.nodes ++ (both ++ R.nodes) in
       let h = held_as all assoc got.nodes in
       let low : base + 2 ≤ length all = omega (arith, e, two, ap length assoc, length-append (s.nodes ++ both) R.nodes) in
       let same : fork_item x base ∷ R.subtrees ≡ fork_item x n ∷ R.subtrees = ap (λ (k : ℕ). fork_item x k ∷ R.subtrees) (sym e) in
-      let at : made.nodes ≤ most_identifiers → id ≡ base = λ small. drawn ∙ id_fits base (omega (arith, (held_ok h small).0, small, low)) in
+      let at : u.len ≤ most_identifiers → id ≡ base = λ small. drawn ∙ id_fits base (omega (arith, (held_ok h small).0, small, low)) in
       let p = place all q R.subtrees base h l at low got.rows (subst (TreedThroughout all q) (sym same) (rule_steady F s x recs (as_possible f) q tree)) in
       let out = left_as _ (ap (append_logic_rule_result all q) same) p in
       record {
@@ -141,24 +134,24 @@ module _ (F : Setting) (s : State) (x : ℕ) (recs : List Rec) (f : ℕ) (q : Li
             record { waiting = out.queue small; graph = d; necessities = stack made-small };
       }
 
-  pub forked_at_lem : {v known : ℕ} {a : List ℕ} → v ≡ min known 65535 → Drawn g₀ known a → known < graph_width → v ≡ forked_world g₀
+  pub forked_at_lem : {v : ℕ} {known : Rust.Graph} → v ≡ min known.worlds 65535 → HasGraph g₀ known → known.worlds < graph_width → v ≡ forked_world g₀
   forked_at_lem e d few = omega (arith, e, d.count, few)
 
-  pub forked_drawn : {u n : ℕ} {a : List ℕ} → u ≡ (node_at s.nodes x).world → Drawn (fork F g₀ u) n a → Drawn forked n a
-  forked_drawn {n = n} {a = a} e d = subst (λ (w : ℕ). Drawn (fork F g₀ w) n a) e d
+  pub forked_drawn : {u : ℕ} {known : Rust.Graph} → u ≡ (node_at s.nodes x).world → HasGraph (fork F g₀ u) known → HasGraph forked known
+  forked_drawn {known = known} e d = subst (λ (w : ℕ). HasGraph (fork F g₀ w) known) e d
 
-  pub forked_held : {v len : ℕ} {a : List ℕ} → v ≡ forked_world g₀ → Held (s.nodes ++ (new_node x f v ∷ new_node x nobody 0 ∷ [])) len a → Held (s.nodes ++ both) len a
+  pub forked_held : {v : ℕ} {u : ProofTree} → v ≡ forked_world g₀ → HasNodes (s.nodes ++ (new_node x f v ∷ new_node x nobody 0 ∷ [])) u → HasNodes (s.nodes ++ both) u
   forked_held e h = held_as (s.nodes ++ both) (ap (λ (w : ℕ). s.nodes ++ (new_node x f w ∷ new_node x nobody 0 ∷ [])) e) h
 
   pub forked_seen : {v : ℕ} (a : List ℕ) → v ≡ forked_world g₀ → Each (Seen s.nodes (some (record { node = x; world = v })) a) (leaves s.nodes) → Each (Seen s.nodes (some forking) a) (leaves s.nodes)
   forked_seen a e h = subst (λ (w : ℕ). Each (Seen s.nodes (some (record { node = x; world = w })) a) (leaves s.nodes)) e h
 
-pub listing_start : (len : ℕ) → Listing [] [] 0 len (replicate item_cells 0)
-listing_start len = record { all = []; rows = rows_none len; are = refl }
+pub listing_start : {x : Items} → ((m : ℕ) → HasItems [] x m) → (len : ℕ) → Listing [] [] x len
+listing_start none len = record { all = []; rows = none len; are = refl }
 
 -- the leaves of a tree whose nodes fit
 module _ (t : List Node) (r : Treed t) {base : ℕ} (count : length t ≡ base) (fits : base ≤ most_identifiers) where
-  pub all_leaves : {m : ℕ} {a : List ℕ} → Listed ([] ++ leaves_below base t 0) m a → Listed (leaves t) m a × (m ≤ most_identifiers)
+  pub all_leaves : {w : Numbers} → HasList ([] ++ leaves_below base t 0) w → HasList (leaves t) w × (w.len ≤ most_identifiers)
   all_leaves l =
       let k = listed_as (leaves t) (leaves_as t base count) l in
       (k, listed_fits k (omega (arith, leaves_few t r, count, fits)))
@@ -167,6 +160,9 @@ module _ (t : List Node) (r : Treed t) {base : ℕ} (count : length t ≡ base) 
   leaves_low = each_map (λ y (h : y < length t). omega (arith, h, count, fits)) (leaves t) (leaves_within t r)
 
 -- what a state before a rule gives
-module _ {p : Progress} {A : Lent} {s : State} {q : List ℕ} (b : Before p A s q) where
-  pub before_held : Held s.nodes p.nodes A.nodes
+module _ {A : Tableau} {s : State} {q : List ℕ} (b : Before A s q) where
+  pub before_held : HasNodes s.nodes A.tree
   before_held = held (omega (arith, b.fits, b.count)) b.count b.laid
+
+  pub before_laid : Laid s.nodes A.tree
+  before_laid = record { fits = b.fits; laid = b.laid }

@@ -14,12 +14,13 @@ use Rattle.definition.specs.Lists.{Each, filter}
 use Rattle.definition.specs.Tree.{Node, new_node, path}
 use Rattle.definition.specs.Subtree.{Targeted}
 use Rattle.definition.specs.Modality.{Necessity, Fork, occurs, Reapplication, give_on}
-use Rattle.tree.specs.Lay.{Held}
+use Rattle.tree.specs.Lay.{HasNodes}
+use Rattle.tree.specs.declared.ProofTree.{ProofTree}
 use Rattle.tree.proofs.Nodes.{held_ok, held_fits, held_as}
 use Rattle.definition.proofs.Basics.Lists.{each_get}
-use Rattle.subtree.specs.Items.{Item, ItemsHeld, Listing}
+use Rattle.subtree.specs.Items.{Item, HasItems, Listing}
+use Rattle.subtree.specs.declared.Items.{Items}
 use Rattle.modality.specs.Seen.{Seen}
-use Rattle.subtree.specs.declared.Counts.{Counts}
 use Rattle.logic.specs.Gave.{Gave}
 use Rattle.logic.proofs.Listings.{item, listing_as, listing_both, listing_self, listing_skip}
 
@@ -34,25 +35,25 @@ module _ (t : List Node) (fk : Option Fork) (n : Necessity) (ws : List ℕ) wher
   abbrev left : List Node → List ℕ → Reapplication
   left more rest = give_on t fk n ws (length (t ++ more)) rest
 
-  pub record Giving (rest : List ℕ) (goal : List Node) (rs : List Item) (items : List Targeted) (len : ℕ) (a : List ℕ) (count : ℕ) (ia : List ℕ) : Type 0 where
+  pub record Giving (rest : List ℕ) (goal : List Node) (rs : List Item) (items : List Targeted) (u : ProofTree) (x : Items) : Type 0 where
     pub more : List Node
     pub done : List Targeted
-    pub held : Held (t ++ more) len a
+    pub held : HasNodes (t ++ more) u
     pub nodes : (t ++ more) ++ (left more rest).nodes ≡ goal
     pub subtrees : done ++ (left more rest).subtrees ≡ items
-    pub rows : len ≤ most_identifiers → Listing rs done count len ia
+    pub rows : u.len ≤ most_identifiers → Listing rs done x u.len
 
-  pub giving_start : (more : List Node) (ls : List ℕ) (rs : List Item) {len count : ℕ} {a ia : List ℕ} → Held (t ++ more) len a → (len ≤ most_identifiers → Listing rs [] count len ia) →
-      Giving ls ((t ++ more) ++ (left more ls).nodes) rs (left more ls).subtrees len a count ia
+  pub giving_start : (more : List Node) (ls : List ℕ) (rs : List Item) {u : ProofTree} {x : Items} → HasNodes (t ++ more) u → (u.len ≤ most_identifiers → Listing rs [] x u.len) →
+      Giving ls ((t ++ more) ++ (left more ls).nodes) rs (left more ls).subtrees u x
   giving_start more ls rs h l = record { more = more; done = []; held = h; nodes = refl; subtrees = refl; rows = l }
 
-  module _ {goal : List Node} {rs : List Item} {items : List Targeted} {len count : ℕ} {a ia : List ℕ} where
-    pub giving_next : (leaf : ℕ) (rest : List ℕ) (g : Giving (leaf ∷ rest) goal rs items len a count ia) {len' count' : ℕ} {b ib : List ℕ} →
-        Held ((t ++ g.more) ++ made leaf) len' b →
-        ((rs' : List Item) → ItemsHeld rs' count ia len → len' ≤ most_identifiers → Listing rs' (item leaf (len' - len) len ∷ []) count' len' ib) →
-        Giving rest goal rs items len' b count' ib
+  module _ {goal : List Node} {rs : List Item} {items : List Targeted} {u : ProofTree} {x : Items} where
+    pub giving_next : (leaf : ℕ) (rest : List ℕ) (g : Giving (leaf ∷ rest) goal rs items u x) {u' : ProofTree} {x' : Items} →
+        HasNodes ((t ++ g.more) ++ made leaf) u' →
+        ((rs' : List Item) → HasItems rs' x u.len → u'.len ≤ most_identifiers → Listing rs' (item leaf (u'.len - u.len) u.len ∷ []) x' u'.len) →
+        Giving rest goal rs items u' x'
     unfolding give_on
-    giving_next leaf rest g {len'} {count'} {b} {ib} h push =
+    giving_next leaf rest g {u'} {x'} h push =
         let base = t ++ g.more in
         let one = made leaf in
         let k = length (here leaf) in
@@ -70,24 +71,24 @@ module _ (t : List Node) (fk : Option Fork) (n : Necessity) (ws : List ℕ) wher
               ∙ ap (λ (m : ℕ). g.done ++ (item leaf k (length base) ∷ (give_on t fk n ws m rest).subtrees)) (sym d) ∙ g.subtrees;
           rows = λ small.
               let lb = (held_ok h small).0 in
-              let low : length base + k ≡ len' = omega (arith, lb, d, ap length e) in
+              let low : length base + k ≡ u'.len = omega (arith, lb, d, ap length e) in
               let fits = held_fits g.held (omega (arith, low, small)) in
               let at = (held_ok g.held fits).0 in
               let was = g.rows fits in
-              let size : len' - len ≡ k = omega (arith, low, at) in
+              let size : u'.len - u.len ≡ k = omega (arith, low, at) in
               let next = push was.all was.rows small in
               listing_both g.done (item leaf k (length base) ∷ []) was
-              (listing_as leaf size (sym at) next);
+              (listing_as {rs = was.all} leaf size (sym at) next);
         }
 
-    pub giving_end : (g : Giving [] goal rs items len a count ia) → Held goal len a × (len ≤ most_identifiers → Listing rs items count len ia)
+    pub giving_end : (g : Giving [] goal rs items u x) → HasNodes goal u × (u.len ≤ most_identifiers → Listing rs items x u.len)
     unfolding give_on
     giving_end g = (
       held_as goal (sym (append-nil (t ++ g.more)) ∙ g.nodes) g.held,
-      λ small. subst (λ (v : List Targeted). Listing rs v count len ia) (sym (append-nil g.done) ∙ g.subtrees) (g.rows small),
+      λ small. subst (λ (v : List Targeted). Listing rs v x u.len) (sym (append-nil g.done) ∙ g.subtrees) (g.rows small),
     )
 
-    giving_turn : {rest : List ℕ} (rest' : List ℕ) → rest ≡ rest' → Giving rest goal rs items len a count ia → Giving rest' goal rs items len a count ia
+    giving_turn : {rest : List ℕ} (rest' : List ℕ) → rest ≡ rest' → Giving rest goal rs items u x → Giving rest' goal rs items u x
     giving_turn rest' e g =
         record {
           more = g.more;
@@ -99,19 +100,19 @@ module _ (t : List Node) (fk : Option Fork) (n : Necessity) (ws : List ℕ) wher
         }
 
     -- the path of entry j of the leaves
-    pub giving_entry : (ls : List ℕ) {j k leaf x f : ℕ} {l : List ℕ} → Listed ls k l → k ≤ most_identifiers → j < k → leaf ≡ get_or ls j 0 → n.spawner ≡ x → n.formula ≡ f →
-        (g : Giving (drop j ls) goal rs items len a count ia) {len' count' : ℕ} {b ib : List ℕ} →
-        (Held (t ++ g.more) len a → Held ((t ++ g.more) ++ map (new_node x f) (filter (occurs t fk (path t leaf)) ws)) len' b) →
-        ((rs' : List Item) → ItemsHeld rs' count ia len → len' ≤ most_identifiers → Listing rs' (item leaf (len' - len) len ∷ []) count' len' ib) →
-        Giving (drop (j + 1) ls) goal rs items len' b count' ib
+    pub giving_entry : (ls : List ℕ) {j k leaf spawner f : ℕ} {l : List ℕ} → Listed ls k l → k ≤ most_identifiers → j < k → leaf ≡ get_or ls j 0 → n.spawner ≡ spawner → n.formula ≡ f →
+        (g : Giving (drop j ls) goal rs items u x) {u' : ProofTree} {x' : Items} →
+        (HasNodes (t ++ g.more) u → HasNodes ((t ++ g.more) ++ map (new_node spawner f) (filter (occurs t fk (path t leaf)) ws)) u') →
+        ((rs' : List Item) → HasItems rs' x u.len → u'.len ≤ most_identifiers → Listing rs' (item leaf (u'.len - u.len) u.len ∷ []) x' u'.len) →
+        Giving (drop (j + 1) ls) goal rs items u' x'
     unfolding giving_turn
-    giving_entry ls {j} {k} {leaf} {x} {f} lk small up e p q g h push =
+    giving_entry ls {j} {k} {leaf} lk small up e p q g h push =
         let o : suc j ≡ j + 1 = omega arith in
         let d = drop-cons ls j 0 (omega (arith, up, listed_count lk small)) ∙ ap₂ (λ (v w : ℕ). v ∷ drop w ls) (sym e) o in
         giving_next leaf (drop (j + 1) ls) (giving_turn (leaf ∷ drop (j + 1) ls) d g)
         (held_as ((t ++ g.more) ++ made leaf) (sym (ap₂ (λ (y z : ℕ). (t ++ g.more) ++ map (new_node y z) (here leaf)) p q)) (h g.held)) push
 
-    pub giving_ends : (ls : List ℕ) {j k : ℕ} {l : List ℕ} → Listed ls k l → k ≤ most_identifiers → k ≤ j → (g : Giving (drop j ls) goal rs items len a count ia) → Held goal len a × (len ≤ most_identifiers → Listing rs items count len ia)
+    pub giving_ends : (ls : List ℕ) {j k : ℕ} {l : List ℕ} → Listed ls k l → k ≤ most_identifiers → k ≤ j → (g : Giving (drop j ls) goal rs items u x) → HasNodes goal u × (u.len ≤ most_identifiers → Listing rs items x u.len)
     giving_ends ls {j} lk small past g =
         let b : length ls ≤ j = omega (arith, past, listed_count lk small) in
         giving_end (giving_turn [] (drop_of_length-le ls b) g)
@@ -123,16 +124,16 @@ module _ (t : List Node) (fk : Option Fork) (n : Necessity) where
   nothing_made [] next = refl
   nothing_made (leaf ∷ ls) next = nothing_made ls (next + 0)
 
-  nothing_listed : (ls : List ℕ) (next : ℕ) {rs : List Item} {count len : ℕ} {ia : List ℕ} → Listing rs [] count len ia → Listing rs (give_on t fk n [] next ls).subtrees count len ia
+  nothing_listed : (ls : List ℕ) (next : ℕ) {rs : List Item} {x : Items} {len : ℕ} → Listing rs [] x len → Listing rs (give_on t fk n [] next ls).subtrees x len
   unfolding give_on
   nothing_listed [] next l = l
   nothing_listed (leaf ∷ ls) next l =
       let one = listing_skip leaf l in
       listing_both (item leaf 0 next ∷ []) (give_on t fk n [] (next + 0) ls).subtrees one (nothing_listed ls (next + 0) (listing_self one))
 
-  pub nothing_given : (ls : List ℕ) (next : ℕ) {ms : List Node} {rs : List Item} (r : Counts) {a ia : List ℕ} → Held ms r.nodes a → (r.nodes ≤ most_identifiers → Listing rs [] r.listed r.nodes ia) →
-      Gave ms rs (give_on t fk n [] next ls) r a ia
-  nothing_given ls next {ms} r h l =
+  pub nothing_given : (ls : List ℕ) (next : ℕ) {ms : List Node} {rs : List Item} {u : ProofTree} {x : Items} → HasNodes ms u → (u.len ≤ most_identifiers → Listing rs [] x u.len) →
+      Gave ms rs (give_on t fk n [] next ls) u x
+  nothing_given ls next {ms} h l =
       record { nodes = held_as (ms ++ (give_on t fk n [] next ls).nodes) (sym (append-nil ms) ∙ ap (λ (v : List Node). ms ++ v) (sym (nothing_made ls next))) h; rows = λ small. nothing_listed ls next (l small) }
 
 -- the worlds that occur on the path of entry j

@@ -7,8 +7,8 @@ use mathlib.Core.Option.{none}
 use native.Mathlib.Omega.{arith}
 use lib.ListN.{length}
 use Rattle.definition.specs.Limits.{most_identifiers}
-use Rattle.limits.specs.Lent.{Lent}
-use Rattle.arrays.specs.Listed.{Listed}
+use Rattle.arrays.specs.Listed.{Listed, HasList}
+use Rattle.arrays.specs.declared.Numbers.{Numbers}
 use Rattle.arrays.proofs.Listed.{listed_fits}
 use Rattle.definition.specs.Lists.{Each, elem, filter}
 use Rattle.definition.specs.Setting.{Setting}
@@ -24,17 +24,19 @@ use Rattle.definition.proofs.Tree.Shape.{leaves_bare, leaves_within, leaves_few}
 use Rattle.definition.proofs.Paths.Spawners.{stored_spawned}
 use Rattle.definition.proofs.Engine.Reapplied.{spawned_leaves}
 use Rattle.definition.proofs.Run.TreeKept.{rule_steady}
-use Rattle.graph.specs.Drawn.{Drawn}
+use Rattle.graph.specs.Drawn.{HasGraph}
+use Rattle.tree.specs.declared.ProofTree.{ProofTree}
 use Rattle.tree.proofs.Paths.{listed_as}
 use Rattle.tree.proofs.Nodes.{held_ok}
-use Rattle.necessities.specs.Stack.{Stack, fresh}
-use Rattle.subtree.specs.declared.Counts.{Counts}
-use Rattle.logic.specs.declared.Progress.{Progress}
+use Rattle.necessities.specs.Stack.{HasStack, fresh}
+use Rattle.necessities.specs.declared.Necessities.{Necessities}
+use Rattle.subtree.specs.declared.Items.{Items}
+use Rattle.logic.specs.declared.Tableau.{Tableau}
 use Rattle.logic.specs.Gave.{Gave}
-use Rattle.logic.specs.Applied.{Stacked, Before, After, necessity_of}
+use Rattle.logic.specs.Applied.{After, necessity_of}
 use Rattle.logic.proofs.Listings.{listing_more}
 use Rattle.logic.proofs.Reapply.{filter_few}
-use Rattle.logic.proofs.Forked.{Places, placed_of}
+use Rattle.logic.proofs.Forked.{Places}
 
 filter_all : (p : ℕ → Bool) (xs : List ℕ) → Each (λ x. p x ≡ true) xs → filter p xs ≡ xs
 filter_all p [] h = refl
@@ -44,13 +46,13 @@ module _ (s : State) (x f : ℕ) where
   abbrev through : List ℕ
   through = filter (λ leaf. elem x (path s.nodes leaf)) (leaves s.nodes)
 
-  pub fresh_as : {w c : ℕ} {na la : List ℕ} → w ≡ (node_at s.nodes x).world → Stack (fresh f w x through ∷ s.necessities) c na la → Stack (necessity_of s x f ∷ s.necessities) c na la
-  fresh_as {c = c} {na} {la} e h = subst (λ (v : ℕ). Stack (fresh f v x through ∷ s.necessities) c na la) e h
+  pub fresh_as : {w : ℕ} {stack : Necessities} → w ≡ (node_at s.nodes x).world → HasStack (fresh f w x through ∷ s.necessities) stack → HasStack (necessity_of s x f ∷ s.necessities) stack
+  fresh_as {stack = stack} e h = subst (λ (v : ℕ). HasStack (fresh f v x through ∷ s.necessities) stack) e h
 
-  pub through_fits : {q : List ℕ} {p : Progress} {A : Lent} → Before p A s q → {m : ℕ} {a : List ℕ} → Listed through m a → (m ≤ most_identifiers) × Each (λ y. y < most_identifiers) through
-  through_fits b l = (
-    listed_fits l (omega (arith, filter_few (λ leaf. elem x (path s.nodes leaf)) (leaves s.nodes), leaves_few s.nodes b.treed, b.fits)),
-    each_map (λ y (h : y < length s.nodes). omega (arith, h, b.fits)) through (filter_keeps (λ y. y < length s.nodes) (λ leaf. elem x (path s.nodes leaf)) (leaves s.nodes) (leaves_within s.nodes b.treed)),
+  pub through_fits : Treed s.nodes → length s.nodes ≤ most_identifiers → {m : ℕ} {a : List ℕ} → Listed through m a → (m ≤ most_identifiers) × Each (λ y. y < most_identifiers) through
+  through_fits r fits l = (
+    listed_fits l (omega (arith, filter_few (λ leaf. elem x (path s.nodes leaf)) (leaves s.nodes), leaves_few s.nodes r, fits)),
+    each_map (λ y (h : y < length s.nodes). omega (arith, h, fits)) through (filter_keeps (λ y. y < length s.nodes) (λ leaf. elem x (path s.nodes leaf)) (leaves s.nodes) (leaves_within s.nodes r)),
   )
 
   -- of the leaves through x, those whose paths run through a leaf that is stored now: all of them
@@ -71,15 +73,15 @@ module _ (F : Setting) (s : State) (x : ℕ) (recs : List Rec) (f : ℕ) (q : Li
   abbrev necessity : Necessity
   necessity = necessity_of s x f
 
-  pub necessity_after : {p : Progress} {made : Counts} {k : ℕ} {ta wa ia : List ℕ} {B : Lent} →
-      Gave (s.nodes ++ []) [] (reapply_necessity s.nodes graph none (length (s.nodes ++ [])) necessity) made ta ia →
-      Stacked (visiting s.nodes graph necessity ∷ s.necessities) p.necessities B → Drawn graph p.worlds B.edges → Listed q k wa → Treed s.nodes →
-      Places made k (placed_of p) ta wa ia B.nodes B.waiting →
-      After p B s q (apply_necessity F s x recs f)
+  pub necessity_after : {u : ProofTree} {items : Items} {w : Numbers} {B : Tableau} →
+      Gave (s.nodes ++ []) [] (reapply_necessity s.nodes graph none (length (s.nodes ++ [])) necessity) u items →
+      HasStack (visiting s.nodes graph necessity ∷ s.necessities) B.necessities → HasGraph graph B.graph → HasList q w → Treed s.nodes →
+      Places items u w B.tree B.waiting →
+      After B s q (apply_necessity F s x recs f)
   unfolding apply_rule apply_necessity fresh
-  necessity_after {made} {ta = ta} {ia = ia} gave stack d l tree place =
+  necessity_after {u} {items} gave stack d l tree place =
       let t = s.nodes in
       let R = reapply_necessity t graph none (length t) necessity in
-      let got = subst (λ (ns : List Node). Gave ns [] (reapply_necessity t graph none (length ns) necessity) made ta ia) (append-nil t) gave in
+      let got = subst (λ (ns : List Node). Gave ns [] (reapply_necessity t graph none (length ns) necessity) u items) (append-nil t) gave in
       let out = place (t ++ R.nodes) q R.subtrees got.nodes (λ _. l) (λ small. listing_more (omega (arith, (held_ok got.nodes small).0)) (got.rows small)) (rule_steady F s x recs (as_necessary f) q tree) in
       record { nodes = out.nodes; rest = λ small. record { waiting = out.queue small; graph = d; necessities = stack } }

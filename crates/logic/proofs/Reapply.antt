@@ -18,12 +18,14 @@ use Rattle.definition.specs.Shortcuts.{ThroughSpawner}
 use Rattle.definition.proofs.Engine.Reapplied.{spawned_leaves}
 use Rattle.arrays.specs.Listed.{Listed}
 use Rattle.arrays.proofs.Listed.{listed_fits}
-use Rattle.tree.specs.Lay.{Held}
+use Rattle.tree.specs.Lay.{Laid, HasNodes}
+use Rattle.tree.specs.declared.ProofTree.{ProofTree}
 use Rattle.tree.proofs.Paths.{listed_as}
 use Rattle.tree.proofs.Nodes.{held_lays, held_long, held_as}
-use Rattle.necessities.specs.Stack.{Stack, visits}
+use Rattle.necessities.specs.Stack.{HasStack, visits}
+use Rattle.necessities.specs.declared.Necessities.{Necessities}
 use Rattle.subtree.specs.Items.{Item, Listing}
-use Rattle.subtree.specs.declared.Counts.{Counts}
+use Rattle.subtree.specs.declared.Items.{Items}
 use Rattle.modality.specs.Stands.{Stands}
 use Rattle.logic.specs.Gave.{Gave}
 use Rattle.logic.proofs.Giving.{nothing_given}
@@ -37,10 +39,10 @@ filter_few p (x ∷ xs) = go (p x) (filter_few p xs)
     go false h = omega (arith, h)
 
 -- what is given
-pub gave_again : (t : List Node) (fk : Option Fork) (g : Graph) (n : Necessity) {ws : List ℕ} → ws ≡ unvisited g n → {ns : List Node} {rs : List Item} {r : Counts} {a ia : List ℕ} →
-    Gave ns rs (give_on t fk n ws (length ns) (leaves_of t n)) r a ia → Gave ns rs (reapply_necessity t g fk (length ns) n) r a ia
+pub gave_again : (t : List Node) (fk : Option Fork) (g : Graph) (n : Necessity) {ws : List ℕ} → ws ≡ unvisited g n → {ns : List Node} {rs : List Item} {u : ProofTree} {x : Items} →
+    Gave ns rs (give_on t fk n ws (length ns) (leaves_of t n)) u x → Gave ns rs (reapply_necessity t g fk (length ns) n) u x
 unfolding reapply_necessity
-gave_again t fk g n e {ns} {rs} {r} {a} {ia} h = subst (λ (ws : List ℕ). Gave ns rs (give_on t fk n ws (length ns) (leaves_of t n)) r a ia) e h
+gave_again t fk g n e {ns} {rs} {u} {x} h = subst (λ (ws : List ℕ). Gave ns rs (give_on t fk n ws (length ns) (leaves_of t n)) u x) e h
 
 -- and what is stored then
 no_length : {A : Type 0} (xs : List A) → length xs ≡ 0 → xs ≡ []
@@ -76,15 +78,19 @@ module _ (t : List Node) (g : Graph) (n : Necessity) where
       go (x ∷ l) h = refl
 
 -- the tree as it stood before the step
-pub stands : (t more : List Node) {base len : ℕ} {a : List ℕ} → length t ≡ base → Held (t ++ more) len a → len ≤ most_identifiers → Stands t base a
+pub stands : (t more : List Node) {base : ℕ} {u : ProofTree} → length t ≡ base → HasNodes (t ++ more) u → u.len ≤ most_identifiers → Stands t base u
 stands t more b h small = record { more = more; count = b; lays = held_lays h small }
+
+-- the tree as it stands
+pub stands_now : (t : List Node) {base : ℕ} {u : ProofTree} → length t ≡ base → Laid t u → Stands t base u
+stands_now t b laid = record { more = []; count = b; lays = rw append-nil laid }
 
 -- the paths of a necessity, known by its spawner
 module _ (t : List Node) (tree : Treed t) (n : Necessity) (at : ThroughSpawner t n) {y : ℕ} (e : y ≡ n.spawner) where
   pub paths_own : {r : ℕ} {o : List ℕ} → Listed (filter (λ leaf. elem y (path t leaf)) (leaves t)) r o → Listed (leaves_of t n) r o
   paths_own l = listed_as (leaves_of t n) (ap (λ (x : ℕ). filter (λ leaf. elem x (path t leaf)) (leaves t)) e ∙ sym (spawned_leaves t tree n at)) l
 
-pub paths_few : (t : List Node) → Treed t → (n : Necessity) {base : ℕ} {a : List ℕ} → Stands t base a → {r : ℕ} {o : List ℕ} → Listed (leaves_of t n) r o → r ≤ most_identifiers
+pub paths_few : (t : List Node) → Treed t → (n : Necessity) {base : ℕ} {u : ProofTree} → Stands t base u → {r : ℕ} {o : List ℕ} → Listed (leaves_of t n) r o → r ≤ most_identifiers
 unfolding leaves_of
 paths_few t tree n d k = listed_fits k (omega (arith, filter_few (λ leaf. runs_through n (path t leaf)) (leaves t), leaves_few t tree, d.lays.fits, length-append t d.more))
 
@@ -93,8 +99,8 @@ unfolding leaves_of
 paths_seen P t n h = filter_keeps P (λ leaf. runs_through n (path t leaf)) (leaves t) h
 
 -- a full table stays full
-pub gave_full : {ns : List Node} {rs : List Item} {made : Reapplication} (r : Counts) {a ia : List ℕ} → Held ns r.nodes a → most_identifiers < r.nodes → Gave ns rs made r a ia
-gave_full {ns} {rs} {made} r h big =
+pub gave_full : {ns : List Node} {rs : List Item} {made : Reapplication} {u : ProofTree} {x : Items} → HasNodes ns u → most_identifiers < u.len → Gave ns rs made u x
+gave_full {ns} {rs} {made} h big =
     record { nodes = held_long (ns ++ made.nodes) h big (omega (arith, length-append ns made.nodes)); rows = λ small. absurd (omega (arith, small, big)) }
 
 set_same : (ns : List Necessity) (i : ℕ) (none : Necessity) → ns ≡ set ns i (get_or ns i none)
@@ -104,11 +110,11 @@ set_same (n ∷ ns) zero none = refl
 set_same (n ∷ ns) (suc i) none = ap (λ (l : List Necessity). n ∷ l) (set_same ns i none)
 
 -- the stack where entry i changes, or does not
-pub stack_set : (ns : List Necessity) (i : ℕ) {n m : Necessity} → n ≡ m → {c : ℕ} {a l : List ℕ} → Stack (set ns i n) c a l → Stack (set ns i m) c a l
-stack_set ns i e {c} {a} {l} s = subst (λ (k : Necessity). Stack (set ns i k) c a l) e s
+pub stack_set : (ns : List Necessity) (i : ℕ) {n m : Necessity} → n ≡ m → {w : Necessities} → HasStack (set ns i n) w → HasStack (set ns i m) w
+stack_set ns i e {w} s = subst (λ (k : Necessity). HasStack (set ns i k) w) e s
 
-pub stack_same : (ns : List Necessity) (i : ℕ) (none : Necessity) {m : Necessity} → get_or ns i none ≡ m → {c : ℕ} {a l : List ℕ} → Stack ns c a l → Stack (set ns i m) c a l
-stack_same ns i none e {c} {a} {l} s = subst (λ (ms : List Necessity). Stack ms c a l) (set_same ns i none ∙ ap (set ns i) e) s
+pub stack_same : (ns : List Necessity) (i : ℕ) (none : Necessity) {m : Necessity} → get_or ns i none ≡ m → {w : Necessities} → HasStack ns w → HasStack (set ns i m) w
+stack_same ns i none e {w} s = subst (λ (ms : List Necessity). HasStack ms w) (set_same ns i none ∙ ap (set ns i) e) s
 
 module _ (t : List Node) (g : Graph) (fk : Fork) (ns : List Necessity) (i : ℕ) (none : Necessity) where
   abbrev n : Necessity
@@ -118,36 +124,36 @@ module _ (t : List Node) (g : Graph) (fk : Fork) (ns : List Necessity) (i : ℕ)
   then b = cond b (visiting t g n) n
 
   -- not given again
-  pub kept_out : {ms : List Node} {rs : List Item} (r : Counts) {a ia : List ℕ} {b : Bool} → b ≡ is_reapplied t fk n → b ≡ false → Held ms r.nodes a → (r.nodes ≤ most_identifiers → Listing rs [] r.listed r.nodes ia) →
-      Gave ms rs (reapply_if_on_path t g fk (length ms) n) r a ia
+  pub kept_out : {ms : List Node} {rs : List Item} {u : ProofTree} {x : Items} {b : Bool} → b ≡ is_reapplied t fk n → b ≡ false → HasNodes ms u → (u.len ≤ most_identifiers → Listing rs [] x u.len) →
+      Gave ms rs (reapply_if_on_path t g fk (length ms) n) u x
   unfolding reapply_if_on_path
-  kept_out {ms} {rs} r {a} {ia} e f h l =
-      subst (λ (b : Bool). Gave ms rs (cond b (reapply_necessity t g (some fk) (length ms) n) (record { nodes = []; subtrees = [] })) r a ia) (sym f ∙ e)
+  kept_out {ms} {rs} {u} {x} e f h l =
+      subst (λ (b : Bool). Gave ms rs (cond b (reapply_necessity t g (some fk) (length ms) n) (record { nodes = []; subtrees = [] })) u x) (sym f ∙ e)
       (record { nodes = held_as (ms ++ []) (sym (append-nil ms)) h; rows = l })
 
-  pub stack_out : {c : ℕ} {a l : List ℕ} {b : Bool} → b ≡ is_reapplied t fk n → b ≡ false → Stack ns c a l → Stack (set ns i (then (is_reapplied t fk n))) c a l
+  pub stack_out : {w : Necessities} {b : Bool} → b ≡ is_reapplied t fk n → b ≡ false → HasStack ns w → HasStack (set ns i (then (is_reapplied t fk n))) w
   stack_out e f s = stack_same ns i none (ap then (sym f ∙ e)) s
 
   -- given again
-  pub kept_in : {ms : List Node} {rs : List Item} {r : Counts} {a ia : List ℕ} {b : Bool} → b ≡ is_reapplied t fk n → b ≡ true → Gave ms rs (reapply_necessity t g (some fk) (length ms) n) r a ia →
-      Gave ms rs (reapply_if_on_path t g fk (length ms) n) r a ia
+  pub kept_in : {ms : List Node} {rs : List Item} {u : ProofTree} {x : Items} {b : Bool} → b ≡ is_reapplied t fk n → b ≡ true → Gave ms rs (reapply_necessity t g (some fk) (length ms) n) u x →
+      Gave ms rs (reapply_if_on_path t g fk (length ms) n) u x
   unfolding reapply_if_on_path
-  kept_in {ms} {rs} {r} {a} {ia} e f h =
-      subst (λ (b : Bool). Gave ms rs (cond b (reapply_necessity t g (some fk) (length ms) n) (record { nodes = []; subtrees = [] })) r a ia) (sym f ∙ e) h
+  kept_in {ms} {rs} {u} {x} e f h =
+      subst (λ (b : Bool). Gave ms rs (cond b (reapply_necessity t g (some fk) (length ms) n) (record { nodes = []; subtrees = [] })) u x) (sym f ∙ e) h
 
-  pub stack_in : {c : ℕ} {a l : List ℕ} {b : Bool} → b ≡ is_reapplied t fk n → b ≡ true → Stack (set ns i (visiting t g n)) c a l → Stack (set ns i (then (is_reapplied t fk n))) c a l
+  pub stack_in : {w : Necessities} {b : Bool} → b ≡ is_reapplied t fk n → b ≡ true → HasStack (set ns i (visiting t g n)) w → HasStack (set ns i (then (is_reapplied t fk n))) w
   stack_in e f s = stack_set ns i (ap then (sym f ∙ e)) s
 
   -- no world to visit: given again or not, nothing comes of it
-  pub kept_idle : unvisited g n ≡ [] → {ms : List Node} {rs : List Item} (r : Counts) {a ia : List ℕ} → Held ms r.nodes a → (r.nodes ≤ most_identifiers → Listing rs [] r.listed r.nodes ia) →
-      Gave ms rs (reapply_if_on_path t g fk (length ms) n) r a ia
+  pub kept_idle : unvisited g n ≡ [] → {ms : List Node} {rs : List Item} {u : ProofTree} {x : Items} → HasNodes ms u → (u.len ≤ most_identifiers → Listing rs [] x u.len) →
+      Gave ms rs (reapply_if_on_path t g fk (length ms) n) u x
   unfolding reapply_if_on_path reapply_necessity
-  kept_idle e {ms} {rs} r {a} {ia} h l =
-      cond_both (λ (m : Reapplication). Gave ms rs m r a ia) (is_reapplied t fk n) (give_on t (some fk) n (unvisited g n) (length ms) (leaves_of t n)) (record { nodes = []; subtrees = [] })
-      (subst (λ (ws : List ℕ). Gave ms rs (give_on t (some fk) n ws (length ms) (leaves_of t n)) r a ia) (sym e) (nothing_given t (some fk) n (leaves_of t n) (length ms) r h l))
+  kept_idle e {ms} {rs} {u} {x} h l =
+      cond_both (λ (m : Reapplication). Gave ms rs m u x) (is_reapplied t fk n) (give_on t (some fk) n (unvisited g n) (length ms) (leaves_of t n)) (record { nodes = []; subtrees = [] })
+      (subst (λ (ws : List ℕ). Gave ms rs (give_on t (some fk) n ws (length ms) (leaves_of t n)) u x) (sym e) (nothing_given t (some fk) n (leaves_of t n) (length ms) h l))
       (record { nodes = held_as (ms ++ []) (sym (append-nil ms)) h; rows = l })
 
-  pub stack_idle : unvisited g n ≡ [] → {c : ℕ} {a l : List ℕ} → Stack ns c a l → Stack (set ns i (then (is_reapplied t fk n))) c a l
+  pub stack_idle : unvisited g n ≡ [] → {w : Necessities} → HasStack ns w → HasStack (set ns i (then (is_reapplied t fk n))) w
   stack_idle e s = stack_same ns i none (go (is_reapplied t fk n)) s
     where
       go : (b : Bool) → n ≡ then b

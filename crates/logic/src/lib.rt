@@ -4,63 +4,49 @@
 ghost use Rattle.std.specs.Prelude.{◌≡◌, cond, List, [], ◌∷◌, ◌++◌, ℕ, suc, ◌≤◌, ◌<◌, ◌+◌, length, get_or, set};
 ghost use Rattle.std.proofs.Math.Option.{Option, some};
 ghost use Rattle.definition.specs.Limits.{most_identifiers};
-ghost use Rattle.arrays.specs.Listed.{Listed};
+ghost use Rattle.arrays.specs.Listed.{HasList};
 ghost use Rattle.bits.specs.Worlds.{worlds_in};
 ghost use Rattle.definition.specs.Lists.{Each};
 ghost use Rattle.definition.specs.Records.{Rec, nobody};
-ghost use Rattle.definition.specs.Graph.{Graph};
+ghost use Rattle.definition.specs.Graph as D;
 ghost use Rattle.definition.specs.Tree.{Node, new_node, leaves};
 ghost use Rattle.definition.specs.Subtree.{Targeted, with_middle, append_logic_rule_result};
 ghost use Rattle.definition.specs.Modality.{Necessity, Fork, unvisited, give_on, leaves_of, reapply_necessity, visiting, is_reapplied, reapply_if_on_path, reapply_necessity_after_possibility, necessities_after_possibility};
 ghost use Rattle.definition.specs.Run.{State, apply_possibility, apply_necessity};
-ghost use Rattle.graph.specs.Drawn.{Drawn};
+ghost use Rattle.graph.specs.Drawn.{HasGraph};
 ghost use Rattle.setting.specs.Asked.{asked};
 ghost use Rattle.definition.specs.TreeShape.{Treed, TreedThroughout};
 ghost use Rattle.definition.specs.Shortcuts.{ThroughSpawner};
-ghost use Rattle.tree.specs.Lay.{lay, Held};
+ghost use Rattle.tree.specs.Lay.{Laid, HasNodes};
 ghost use Rattle.tree.specs.Sequence.{id_at};
-ghost use Rattle.necessities.specs.Stored.{Row};
-ghost use Rattle.necessities.specs.Stack.{Stack};
+ghost use Rattle.necessities.specs.Stack.{HasStack, HasRow};
 ghost use Rattle.subtree.specs.Items as subtrees;
 ghost use Rattle.subtree.specs.Items.{Listing};
 ghost use Rattle.subtree.specs.Subtree.{subtree_of, Within, Left};
 ghost use Rattle.modality.specs.Seen.{Seen};
 ghost use Rattle.logic.specs.Gave.{Gave};
-ghost use Rattle.logic.specs.Applied.{Before, After, Passed, necessity_of};
+ghost use Rattle.logic.specs.Applied.{Before, After, necessity_of};
 
-use arrays::nth;
+use arrays::Numbers;
 use formula::FormulaNumber;
-use graph::{PossibleWorld, fork_world, forked_world, initialize_graph_if_needed};
-use limits::{
-    Edges, ITEM_CELLS, Items, Leaves, MOST_IDENTIFIERS, Necessities, Nodes, Numbers, Waiting,
-    Worlds,
-};
+use graph::{Graph, PossibleWorld};
+use limits::{MOST_IDENTIFIERS, Worlds};
 use modality::{
     Forking, give_on_leaf, is_reapplied, leaves_of, leaves_through, unvisited, worlds_on_paths,
 };
-use necessities::{formula_at, leaf_row_at, spawner_at, store, turn, visit, visited_at, world_at};
+use necessities::Necessities;
 use setting::Setting;
-use subtree::{Counts, ProofSubtree, append_logic_rule_result, append_subtree, push_item};
-use tree::{Chain, Issued, ProofTreeNodeID, leaves_below, new_node, world_of};
+use subtree::{Items, ProofSubtree, append_logic_rule_result, append_subtree};
+use tree::{Chain, ProofTree, ProofTreeNodeID};
 
-// The counts of a run, and whether it has proved. More nodes than there is room for: full.
-#[derive(Clone, Copy)]
-pub struct Progress {
-    pub formulas: usize,
-    pub nodes: usize,
-    pub worlds: usize,
-    pub necessities: usize,
-    pub waiting: usize,
-    pub steps: usize,
-    pub proved: bool,
+// What the rules work on: the tree, the world graph, the stored necessities, and the nodes that wait.
+#[derive(Drop)]
+pub struct Tableau {
+    pub tree: ProofTree,
+    pub graph: Graph,
+    pub necessities: Necessities,
+    pub waiting: Numbers,
 }
-
-// No fork is in progress.
-const NO_FORK: Forking = Forking {
-    on: false,
-    node: ProofTreeNodeID::ROOT,
-    world: PossibleWorld::ZERO,
-};
 
 // The word of leaf x.
 fn word_at(seen: &Worlds, x: ProofTreeNodeID) -> u32
@@ -75,360 +61,266 @@ fn word_at(seen: &Worlds, x: ProofTreeNodeID) -> u32
 
 // Path by path, a node for each of the worlds that occurs there, as the leaf's word says.
 fn give_on(
-    nodes: &mut Nodes,
-    begun: Counts,
+    tree: &mut ProofTree,
     spawner: ProofTreeNodeID,
     formula: FormulaNumber,
     seen: &Worlds,
     worlds: u32,
     on: &Numbers,
-    k: usize,
     items: &mut Items,
-) -> Counts
+)
     ensures { (t more : List Node) (fk : Option Fork) (n : Necessity) (ls : List ℕ) (rs : List subtrees.Item) → n.spawner ≡ spawner.0 → n.formula ≡ formula.0
-        → Listed ls k on.now → k ≤ most_identifiers → Each (Seen t fk seen.now) ls
-        → Held (t ++ more) begun.nodes nodes.old → (begun.nodes ≤ most_identifiers → Listing rs [] begun.listed begun.nodes items.old)
-        → Gave (t ++ more) rs (give_on t fk n (worlds_in worlds) (length (t ++ more)) ls) result nodes.new items.new }
+        → HasList ls on.now → on.now.len ≤ most_identifiers → Each (Seen t fk seen.now) ls
+        → HasNodes (t ++ more) tree.old → (tree.old.len ≤ most_identifiers → Listing rs [] items.old tree.old.len)
+        → Gave (t ++ more) rs (give_on t fk n (worlds_in worlds) (length (t ++ more)) ls) tree.new items.new }
 {
-    let mut here = begun;
-    let mut j: usize = 0;
-    while j < k {
-        let leaf = ProofTreeNodeID(nth(on, j));
+    for j in 0..on.len {
+        let leaf = ProofTreeNodeID(on.nth(j));
         let word = word_at(seen, leaf);
-        let given = give_on_leaf(nodes, here.nodes, spawner, formula, word, worlds);
-        let chain = given.chain;
-        here.listed = push_item(items, here.listed, leaf, chain);
-        here.nodes = given.len;
-        j += 1;
+        let given = give_on_leaf(tree, spawner, formula, word, worlds);
+        items.push(leaf, given);
     }
-    here
 }
 
 // The worlds that the necessity of row k has still to visit, one bit each.
-fn worlds_to_visit(edges: &Edges, worlds: usize, necessities: &Necessities, k: usize) -> u32
-    ensures { (g : Graph) (n : Necessity) (bits : List ℕ) → Row n k necessities.now bits → Drawn g worlds edges.now → worlds_in result ≡ unvisited g n }
+fn worlds_to_visit(graph: &Graph, necessities: &Necessities, k: usize) -> u32
+    ensures { (g : D.Graph) (n : Necessity) → HasRow n k necessities.now → HasGraph g graph.now → worlds_in result ≡ unvisited g n }
 {
-    let before = visited_at(necessities, k);
-    unvisited(edges, worlds, before, world_at(necessities, k))
+    unvisited(graph, necessities.visited_at(k), necessities.world_at(k))
 }
 
 // The necessity of row k, i below the top, is given on its paths for the worlds of the word, which it has then visited if it has a path.
 fn reapply_necessity(
-    nodes: &mut Nodes,
-    begun: Counts,
+    tree: &mut ProofTree,
     necessities: &mut Necessities,
     k: usize,
     seen: &Worlds,
     worlds: u32,
     on: &Numbers,
-    m: usize,
     items: &mut Items,
-) -> Counts
-    ensures { (t more : List Node) (g : Graph) (fk : Option Fork) (ns : List Necessity) (none : Necessity) (rs : List subtrees.Item) (c i : ℕ) (bits : List ℕ)
-        → Stack ns c necessities.old bits → i + k + 1 ≡ c → worlds_in worlds ≡ unvisited g (get_or ns i none)
-        → Listed (leaves_of t (get_or ns i none)) m on.now → m ≤ most_identifiers → Each (Seen t fk seen.now) (leaves_of t (get_or ns i none))
-        → Held (t ++ more) begun.nodes nodes.old → (begun.nodes ≤ most_identifiers → Listing rs [] begun.listed begun.nodes items.old)
-        → Gave (t ++ more) rs (reapply_necessity t g fk (length (t ++ more)) (get_or ns i none)) result nodes.new items.new
-        × Stack (set ns i (visiting t g (get_or ns i none))) c necessities.new bits }
+)
+    ensures { (t more : List Node) (g : D.Graph) (fk : Option Fork) (ns : List Necessity) (none : Necessity) (rs : List subtrees.Item) (i : ℕ)
+        → HasStack ns necessities.old → i + k + 1 ≡ necessities.old.count → worlds_in worlds ≡ unvisited g (get_or ns i none)
+        → HasList (leaves_of t (get_or ns i none)) on.now → on.now.len ≤ most_identifiers → Each (Seen t fk seen.now) (leaves_of t (get_or ns i none))
+        → HasNodes (t ++ more) tree.old → (tree.old.len ≤ most_identifiers → Listing rs [] items.old tree.old.len)
+        → Gave (t ++ more) rs (reapply_necessity t g fk (length (t ++ more)) (get_or ns i none)) tree.new items.new
+        × HasStack (set ns i (visiting t g (get_or ns i none))) necessities.new }
 {
-    let f = formula_at(necessities, k);
-    let made = give_on(
-        nodes,
-        begun,
-        spawner_at(necessities, k),
-        f,
-        seen,
-        worlds,
-        on,
-        m,
-        items,
-    );
-    if m == 0 {
-        return made;
+    let f = necessities.formula_at(k);
+    give_on(tree, necessities.spawner_at(k), f, seen, worlds, on, items);
+    if on.len == 0 {
+        return;
     }
-    visit(necessities, k, worlds);
-    made
+    necessities.visit(k, worlds);
 }
 
 // The necessity of row k, i below the top, is given again if it has a world to visit and one of its paths goes through the forking node.
+// The tree had `base` nodes before the step.
 fn reapply_if_on_path(
-    nodes: &mut Nodes,
+    tree: &mut ProofTree,
     base: usize,
-    here: Counts,
-    edges: &Edges,
-    worlds: usize,
+    graph: &Graph,
     necessities: &mut Necessities,
     k: usize,
     node: ProofTreeNodeID,
     seen: &Worlds,
     items: &mut Items,
-) -> Counts
-    ensures { (t more : List Node) (g : Graph) (ns : List Necessity) (none : Necessity) (rs : List subtrees.Item) (c i : ℕ) (bits : List ℕ) (fk : Fork)
-        → Stack ns c necessities.old bits → i + k + 1 ≡ c → fk.node ≡ node.0
-        → Drawn g worlds edges.now → length t ≡ base → Treed t → ThroughSpawner t (get_or ns i none) → Each (Seen t (some fk) seen.now) (leaves t)
-        → Held (t ++ more) here.nodes nodes.old → (here.nodes ≤ most_identifiers → Listing rs [] here.listed here.nodes items.old)
-        → Gave (t ++ more) rs (reapply_if_on_path t g fk (length (t ++ more)) (get_or ns i none)) result nodes.new items.new
-        × (result.nodes ≤ most_identifiers → Stack (set ns i (cond (is_reapplied t fk (get_or ns i none)) (visiting t g (get_or ns i none)) (get_or ns i none))) c necessities.new bits) }
+)
+    ensures { (t more : List Node) (g : D.Graph) (ns : List Necessity) (none : Necessity) (rs : List subtrees.Item) (i : ℕ) (fk : Fork)
+        → HasStack ns necessities.old → i + k + 1 ≡ necessities.old.count → fk.node ≡ node.0
+        → HasGraph g graph.now → length t ≡ base → Treed t → ThroughSpawner t (get_or ns i none) → Each (Seen t (some fk) seen.now) (leaves t)
+        → HasNodes (t ++ more) tree.old → (tree.old.len ≤ most_identifiers → Listing rs [] items.old tree.old.len)
+        → Gave (t ++ more) rs (reapply_if_on_path t g fk (length (t ++ more)) (get_or ns i none)) tree.new items.new
+        × (tree.new.len ≤ most_identifiers → HasStack (set ns i (cond (is_reapplied t fk (get_or ns i none)) (visiting t g (get_or ns i none)) (get_or ns i none))) necessities.new) }
 {
-    if MOST_IDENTIFIERS < here.nodes {
-        return here;
+    if MOST_IDENTIFIERS < tree.len {
+        return;
     }
-    let fresh = worlds_to_visit(edges, worlds, necessities, k);
+    let fresh = worlds_to_visit(graph, necessities, k);
     if fresh == 0 {
-        return here;
+        return;
     }
-    let spawner = spawner_at(necessities, k);
-    if is_reapplied(nodes, base, node, spawner) {
-        let mut on = [0u16; MOST_IDENTIFIERS];
-        let m = leaves_through(nodes, base, spawner, &mut on);
-        return reapply_necessity(nodes, here, necessities, k, seen, fresh, &on, m, items);
+    let spawner = necessities.spawner_at(k);
+    if !is_reapplied(tree, base, node, spawner) {
+        return;
     }
-    here
+    let mut on = Numbers::new();
+    leaves_through(tree, base, spawner, &mut on);
+    reapply_necessity(tree, necessities, k, seen, fresh, &on, items);
 }
 
 // Every stored necessity, from the top of the stack, is given again where one of its paths goes through the forking node; the stack is turned round.
 fn reapply_necessity_after_possibility(
-    nodes: &mut Nodes,
+    tree: &mut ProofTree,
     base: usize,
-    begun: Counts,
-    edges: &Edges,
-    worlds: usize,
+    graph: &Graph,
     necessities: &mut Necessities,
-    c: usize,
     node: ProofTreeNodeID,
     seen: &Worlds,
     items: &mut Items,
-) -> Counts
-    ensures { (t more : List Node) (g : Graph) (ns : List Necessity) (rs : List subtrees.Item) (bits : List ℕ) (fk : Fork)
-        → Stack ns c necessities.old bits → fk.node ≡ node.0
-        → Drawn g worlds edges.now → length t ≡ base → Treed t → Each (ThroughSpawner t) ns → (0 < c → Each (Seen t (some fk) seen.now) (leaves t))
-        → Held (t ++ more) begun.nodes nodes.old → (begun.nodes ≤ most_identifiers → Listing rs [] begun.listed begun.nodes items.old)
-        → Gave (t ++ more) rs (reapply_necessity_after_possibility t g fk (length (t ++ more)) ns) result nodes.new items.new
-        × (result.nodes ≤ most_identifiers → Stack (necessities_after_possibility t g fk ns) c necessities.new bits) }
+)
+    ensures { (t more : List Node) (g : D.Graph) (ns : List Necessity) (rs : List subtrees.Item) (fk : Fork)
+        → HasStack ns necessities.old → fk.node ≡ node.0
+        → HasGraph g graph.now → length t ≡ base → Treed t → Each (ThroughSpawner t) ns → (0 < necessities.old.count → Each (Seen t (some fk) seen.now) (leaves t))
+        → HasNodes (t ++ more) tree.old → (tree.old.len ≤ most_identifiers → Listing rs [] items.old tree.old.len)
+        → Gave (t ++ more) rs (reapply_necessity_after_possibility t g fk (length (t ++ more)) ns) tree.new items.new
+        × (tree.new.len ≤ most_identifiers → HasStack (necessities_after_possibility t g fk ns) necessities.new) }
 {
-    let mut here = begun;
-    let mut i: usize = 0;
-    while i < c {
-        if MOST_IDENTIFIERS < here.nodes {
-            return here;
+    for k in (0..necessities.count).rev() {
+        if MOST_IDENTIFIERS < tree.len {
+            return;
         }
-        here = reapply_if_on_path(
-            nodes,
-            base,
-            here,
-            edges,
-            worlds,
-            necessities,
-            c - 1 - i,
-            node,
-            seen,
-            items,
-        );
-        i += 1;
+        reapply_if_on_path(tree, base, graph, necessities, k, node, seen, items);
     }
-    turn(necessities, c);
-    here
+    necessities.turn();
 }
 
-// Stores the necessity of node x, with the leaves of its paths. The count of those that are stored.
+// Stores the necessity of node x, with the leaves of its paths.
 fn store_necessity(
-    p: Progress,
+    tree: &ProofTree,
+    necessities: &mut Necessities,
     x: ProofTreeNodeID,
     f: FormulaNumber,
-    nodes: &Nodes,
-    necessities: &mut Necessities,
-    leaves: &mut Leaves,
-) -> usize
-    ensures { (s : State) (q formulas edges waiting classes : List ℕ) → Before p (record { formulas = formulas; nodes = nodes.now; edges = edges; necessities = necessities.old; leaves = leaves.old; waiting = waiting; classes = classes }) s q
-        → Stack (necessity_of s x.0 f.0 ∷ s.necessities) result necessities.new leaves.new }
+)
+    ensures { (s : State) → Treed s.nodes → length s.nodes ≡ tree.now.len → Laid s.nodes tree.now → HasStack s.necessities necessities.old → necessities.old.count < most_identifiers
+        → HasStack (necessity_of s x.0 f.0 ∷ s.necessities) necessities.new }
 {
-    let mut stored = [0u16; MOST_IDENTIFIERS];
-    let n = leaves_through(nodes, p.nodes, x, &mut stored);
-    let w = world_of(nodes, x);
-    store(necessities, p.necessities, leaves, f, w, x, &stored, n)
+    let mut stored = Numbers::new();
+    leaves_through(tree, tree.len, x, &mut stored);
+    necessities.store(f, tree.world_of(x), x, &stored);
 }
 
 // Gives a node for each world that is reached, path by path, and stores the necessity with the leaves of its paths.
 pub fn apply_necessity(
+    tableau: &mut Tableau,
     setting: Setting,
-    p: Progress,
     x: ProofTreeNodeID,
     f: FormulaNumber,
-    nodes: &mut Nodes,
-    edges: &mut Edges,
-    necessities: &mut Necessities,
-    leaves: &mut Leaves,
-    waiting: &mut Waiting,
-) -> Progress
-    ensures { Passed p result × ((s : State) (more : List Rec) (q formulas classes : List ℕ)
-        → Before p (record { formulas = formulas; nodes = nodes.old; edges = edges.old; necessities = necessities.old; leaves = leaves.old; waiting = waiting.old; classes = classes }) s q
-        → After result (record { formulas = formulas; nodes = nodes.new; edges = edges.new; necessities = necessities.new; leaves = leaves.new; waiting = waiting.new; classes = classes }) s q (apply_necessity (asked setting) s x.0 more f.0)) }
+)
+    ensures { (s : State) (more : List Rec) (q : List ℕ) → Before tableau.old s q
+        → After tableau.new s q (apply_necessity (asked setting) s x.0 more f.0) }
 {
-    let worlds = initialize_graph_if_needed(edges, p.worlds, setting);
-    let c = store_necessity(p, x, f, nodes, necessities, leaves);
-    let k = p.necessities;
-    let mut below = [0u16; MOST_IDENTIFIERS];
-    let m = leaves_through(nodes, p.nodes, x, &mut below);
-    let mut on = [0u16; MOST_IDENTIFIERS];
-    let row = leaf_row_at(necessities, k);
-    let own = leaves_of(nodes, p.nodes, leaves, row, &below, m, &mut on, 0);
+    tableau.graph.initialize_graph_if_needed(setting);
+    let k = tableau.necessities.count;
+    store_necessity(&tableau.tree, &mut tableau.necessities, x, f);
+    let base = tableau.tree.len;
+    let mut below = Numbers::new();
+    leaves_through(&tableau.tree, base, x, &mut below);
+    let mut on = Numbers::new();
+    let row = tableau.necessities.leaf_row_at(k);
+    leaves_of(
+        &tableau.tree,
+        base,
+        &tableau.necessities,
+        row,
+        &below,
+        &mut on,
+    );
     let mut seen = [0u32; MOST_IDENTIFIERS];
-    worlds_on_paths(nodes, p.nodes, NO_FORK, &on, own, &mut seen);
-    let fresh = worlds_to_visit(edges, worlds, necessities, k);
-    let mut items = [0u16; ITEM_CELLS];
-    let begun = Counts {
-        nodes: p.nodes,
-        listed: 0,
-    };
-    let made = reapply_necessity(
-        nodes,
-        begun,
-        necessities,
+    worlds_on_paths(&tableau.tree, base, None, &on, &mut seen);
+    let fresh = worlds_to_visit(&tableau.graph, &tableau.necessities, k);
+    let mut items = Items::new();
+    reapply_necessity(
+        &mut tableau.tree,
+        &mut tableau.necessities,
         k,
         &seen,
         fresh,
         &on,
-        own,
         &mut items,
     );
-    let placed = append_logic_rule_result(nodes, made, &items, waiting, p.waiting);
-    let mut after = p;
-    after.nodes = placed.nodes;
-    after.waiting = placed.listed;
-    after.worlds = worlds;
-    after.necessities = c;
-    after
+    append_logic_rule_result(&mut tableau.tree, &items, &mut tableau.waiting);
 }
 
 // The new world's formula, under its identifier, and the comment above it, which is the next.
 fn with_comment(id: ProofTreeNodeID) -> ProofSubtree
     ensures { (subtree_of result ≡ with_middle (suc id.0 ∷ id.0 ∷ [])) × ((m : ℕ) → id.0 + 2 ≤ m → Within result m) }
 {
-    let middle = Chain {
+    ProofSubtree::with_middle(Chain {
         start: id,
         count: 2,
         rising: false,
-    };
-    ProofSubtree {
-        left: Chain::EMPTY,
-        middle,
-        right: Chain::EMPTY,
-    }
+    })
 }
 
-// The formula's node in the new world, and then its comment's: the formula's identifier, and the count after both.
+// The formula's node in the new world, and then its comment's: the formula's identifier.
 fn fork_nodes(
-    nodes: &mut Nodes,
-    len: usize,
+    tree: &mut ProofTree,
     x: ProofTreeNodeID,
     f: FormulaNumber,
     v: PossibleWorld,
-) -> Issued
-    ensures { (result.id.0 ≡ id_at len) × ((ns : List Node) → Held ns len nodes.old → Held (ns ++ (new_node x.0 f.0 v.0 ∷ new_node x.0 nobody 0 ∷ [])) result.len nodes.new) }
+) -> ProofTreeNodeID
+    ensures { (result.0 ≡ id_at tree.old.len) × ((ns : List Node) → HasNodes ns tree.old → HasNodes (ns ++ (new_node x.0 f.0 v.0 ∷ new_node x.0 nobody 0 ∷ [])) tree.new) }
 {
-    let formula = new_node(nodes, len, x, f, v);
-    let comment = new_node(
-        nodes,
-        formula.len,
-        x,
-        FormulaNumber::COMMENT,
-        PossibleWorld::ZERO,
-    );
-    let id = formula.id;
-    Issued {
-        id,
-        len: comment.len,
-    }
+    let id = tree.new_node(x, f, v);
+    tree.new_node(x, FormulaNumber::COMMENT, PossibleWorld::ZERO);
+    id
 }
 
 // The fork's two nodes, the first under `id`, and then the subtrees that necessities gave.
 fn place_fork(
-    nodes: &mut Nodes,
+    tree: &mut ProofTree,
     id: ProofTreeNodeID,
-    made: Counts,
     x: ProofTreeNodeID,
     items: &Items,
-    waiting: &mut Waiting,
-    n: usize,
-) -> Counts
-    ensures { (ns : List Node) (q : List ℕ) (more : List Targeted) (base : ℕ) → Held ns made.nodes nodes.old → Listed q n waiting.old → (made.nodes ≤ most_identifiers → id.0 ≡ base) → base + 2 ≤ length ns
-        → (made.nodes ≤ most_identifiers → Listing [] more made.listed made.nodes items.now) → TreedThroughout ns q (record { target = x.0; subtree = with_middle (suc base ∷ base ∷ []) } ∷ more)
-        → Left (append_logic_rule_result ns q (record { target = x.0; subtree = with_middle (suc base ∷ base ∷ []) } ∷ more)) result nodes.new waiting.new }
+    waiting: &mut Numbers,
+)
+    ensures { (ns : List Node) (q : List ℕ) (more : List Targeted) (base : ℕ) → HasNodes ns tree.old → HasList q waiting.old → (tree.old.len ≤ most_identifiers → id.0 ≡ base) → base + 2 ≤ length ns
+        → (tree.old.len ≤ most_identifiers → Listing [] more items.now tree.old.len) → TreedThroughout ns q (record { target = x.0; subtree = with_middle (suc base ∷ base ∷ []) } ∷ more)
+        → Left (append_logic_rule_result ns q (record { target = x.0; subtree = with_middle (suc base ∷ base ∷ []) } ∷ more)) tree.new waiting.new }
 {
-    let top = append_subtree(nodes, made.nodes, x, with_comment(id), waiting, n);
-    let mut rest = made;
-    rest.nodes = top.nodes;
-    append_logic_rule_result(nodes, rest, items, waiting, top.listed)
+    append_subtree(tree, x, with_comment(id), waiting);
+    append_logic_rule_result(tree, items, waiting);
 }
 
 // Stores the worlds that occur on each leaf's path while x forks to world v; nothing where no necessity asks for them.
 fn worlds_at_fork(
-    nodes: &Nodes,
-    base: usize,
+    tree: &ProofTree,
     x: ProofTreeNodeID,
     v: PossibleWorld,
     stored: usize,
     seen: &mut Worlds,
 )
-    ensures { (t : List Node) → Treed t → length t ≡ base → base ≤ most_identifiers → nodes.now ≡ lay t → length seen.old ≡ most_identifiers → 0 < stored
+    ensures { (t : List Node) → Treed t → length t ≡ tree.now.len → Laid t tree.now → length seen.old ≡ most_identifiers → 0 < stored
         → Each (Seen t (some (record { node = x.0; world = v.0 })) seen.new) (leaves t) }
 {
     if stored == 0 {
         return;
     }
-    let forking = Forking {
-        on: true,
-        node: x,
-        world: v,
-    };
-    let mut all = [0u16; MOST_IDENTIFIERS];
-    let m = leaves_below(nodes, ProofTreeNodeID::ROOT, base, &mut all, 0);
-    worlds_on_paths(nodes, base, forking, &all, m, seen);
+    let forking = Some(Forking { node: x, world: v });
+    let mut all = Numbers::new();
+    tree.leaves_below(ProofTreeNodeID::ROOT, tree.len, &mut all);
+    worlds_on_paths(tree, tree.len, forking, &all, seen);
 }
 
 // A new world, with the formula and its comment; then the stored necessities whose paths go through the node.
 pub fn apply_possibility(
+    tableau: &mut Tableau,
     setting: Setting,
-    p: Progress,
     x: ProofTreeNodeID,
     f: FormulaNumber,
-    nodes: &mut Nodes,
-    edges: &mut Edges,
-    necessities: &mut Necessities,
-    waiting: &mut Waiting,
-) -> Progress
-    ensures { Passed p result × ((s : State) (more : List Rec) (q formulas leaves classes : List ℕ)
-        → Before p (record { formulas = formulas; nodes = nodes.old; edges = edges.old; necessities = necessities.old; leaves = leaves; waiting = waiting.old; classes = classes }) s q
-        → After result (record { formulas = formulas; nodes = nodes.new; edges = edges.new; necessities = necessities.new; leaves = leaves; waiting = waiting.new; classes = classes }) s q (apply_possibility (asked setting) s x.0 more f.0)) }
+)
+    ensures { (s : State) (more : List Rec) (q : List ℕ) → Before tableau.old s q
+        → After tableau.new s q (apply_possibility (asked setting) s x.0 more f.0) }
 {
-    let known = initialize_graph_if_needed(edges, p.worlds, setting);
-    let v = forked_world(known);
-    let worlds = fork_world(edges, known, world_of(nodes, x), setting);
+    tableau.graph.initialize_graph_if_needed(setting);
+    let v = tableau.graph.forked_world();
+    let u = tableau.tree.world_of(x);
+    tableau.graph.fork_world(u, setting);
     let mut seen = [0u32; MOST_IDENTIFIERS];
-    worlds_at_fork(nodes, p.nodes, x, v, p.necessities, &mut seen);
-    let forked = fork_nodes(nodes, p.nodes, x, f, v);
-    let id = forked.id;
-    let begun = Counts {
-        nodes: forked.len,
-        listed: 0,
-    };
-    let mut items = [0u16; ITEM_CELLS];
-    let made = reapply_necessity_after_possibility(
-        nodes,
-        p.nodes,
-        begun,
-        edges,
-        worlds,
-        necessities,
-        p.necessities,
+    let stored = tableau.necessities.count;
+    worlds_at_fork(&tableau.tree, x, v, stored, &mut seen);
+    let base = tableau.tree.len;
+    let id = fork_nodes(&mut tableau.tree, x, f, v);
+    let mut items = Items::new();
+    reapply_necessity_after_possibility(
+        &mut tableau.tree,
+        base,
+        &tableau.graph,
+        &mut tableau.necessities,
         x,
         &seen,
         &mut items,
     );
-    let placed = place_fork(nodes, id, made, x, &items, waiting, p.waiting);
-    let mut after = p;
-    after.nodes = placed.nodes;
-    after.waiting = placed.listed;
-    after.worlds = worlds;
-    after
+    place_fork(&mut tableau.tree, id, x, &items, &mut tableau.waiting);
 }

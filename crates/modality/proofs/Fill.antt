@@ -2,7 +2,7 @@
 use Prim.Native.Nat.{ℕ, ◌+◌, ◌<◌, ◌≤◌}
 use mathlib.Core.Path.{◌≡◌, sym, ap, ◌∙◌}
 use mathlib.Core.Bool.{Bool, cond}
-use mathlib.Core.List.{List, [], ◌∷◌, ◌++◌, append_assoc, append-nil}
+use mathlib.Core.List.{List, [], ◌∷◌, ◌++◌, append_assoc}
 use lib.ListN.{length, get_or, take}
 use Rattle.arrays.specs.Listed.{Listed}
 use Rattle.definition.specs.Lists.{filter}
@@ -10,9 +10,6 @@ use Rattle.tree.proofs.Paths.{listed_as}
 use Rattle.modality.proofs.Lists.{kept_next, kept_all}
 
 module _ (p : ℕ → Bool) (xs l : List ℕ) where
-  pub fill_start : {n : ℕ} {a : List ℕ} → Listed l n a → Listed (l ++ filter p (take 0 xs)) n a
-  fill_start q = listed_as (l ++ filter p (take 0 xs)) (sym (append-nil l)) q
-
   pub fill_next : {n m : ℕ} {a c : List ℕ} (j x : ℕ) {b : Bool} → j < length xs → x ≡ get_or xs j 0 → b ≡ p x → Listed (l ++ filter p (take j xs)) n a
       → ((k : List ℕ) → Listed k n a → Listed (k ++ cond b (x ∷ []) []) m c) → Listed (l ++ filter p (take (j + 1) xs)) m c
   fill_next j x {b} h e q inv f =

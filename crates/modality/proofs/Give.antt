@@ -1,12 +1,11 @@
 -- Worlds that are kept, leaves that are kept, and nodes that are made for worlds that are kept.
-use Prim.Native.Nat.{ℕ, ◌+◌, ◌%◌, ◌<◌, ◌≤◌}
+use Prim.Native.Nat.{ℕ, ◌<◌, ◌≤◌}
 use mathlib.Core.Path.{◌≡◌, refl, sym, ap, ap₂, ◌∙◌}
-use mathlib.Core.Bool.{Bool, true, false, not, ◌&&◌, ◌||◌, and-false}
+use mathlib.Core.Bool.{Bool, false, not, ◌&&◌}
 use mathlib.Core.List.{List, [], ◌∷◌, ◌++◌, map, append_assoc, append-nil}
-use mathlib.Core.Logic.{◌⊎◌, ◌≢◌, inl, inr}
 use native.Mathlib.Omega.{arith}
-use lib.Dec.{eqb, ltb}
-use borrow.Author.Tests.{eq-eqb, ne_eqb, lt-ltb, le-ltb, ltb-true, ltb-false}
+use lib.Dec.{ltb}
+use borrow.Author.Tests.{lt-ltb, le-ltb}
 use Rattle.bits.specs.Bits.{bit_of}
 use Rattle.bits.specs.Worlds.{set_below, worlds_in}
 use Rattle.bits.proofs.Power.{no_bit}
@@ -15,7 +14,6 @@ use Rattle.definition.specs.Lists.{elem, filter, below}
 use Rattle.definition.specs.Graph.{Graph, edge, reached}
 use Rattle.definition.specs.Tree.{Node, path}
 use Rattle.definition.specs.Modality.{Necessity, runs_through, unvisited}
-use Rattle.definition.proofs.Basics.Lists.{alike}
 use Rattle.tree.specs.Lay.{Held}
 use Rattle.tree.proofs.Nodes.{held_as}
 use Rattle.modality.proofs.Lists.{filter_both, filter_no}
@@ -44,24 +42,6 @@ Marks q v word = (k : ℕ) → k < 32 → bit_of word k ≡ (ltb k v && q k)
 
 pub marks_none : (q : ℕ → Bool) → Marks q 0 0
 marks_none q k h = no_bit k ∙ rw (le-ltb k 0 (omega arith)) refl
-
-pub marks_next : (q : ℕ → Bool) (v x word more : ℕ) {b : Bool} → x ≡ v → v < 32 → b ≡ q x → ((k : ℕ) → k < 32 → bit_of more k ≡ ((b && eqb k (x % 32)) || bit_of word k)) → Marks q v word → Marks q (v + 1) more
-marks_next q v x word more {b} e low pass put marked k h = put k h ∙ go (alike k v)
-  where
-    same : x % 32 ≡ v
-    same = omega (arith, e, low)
-
-    both : (c : Bool) → ((c && true) || false) ≡ c
-    both true = refl
-    both false = refl
-
-    go : (k ≡ v) ⊎ (k ≢ v) → ((b && eqb k (x % 32)) || bit_of word k) ≡ (ltb k (v + 1) && q k)
-    go (inl d) = rw (marked k h, eq-eqb k (x % 32) (d ∙ sym same), le-ltb k v (omega (arith, d)), lt-ltb k (v + 1) (omega (arith, d))) (both b ∙ pass ∙ ap q (e ∙ sym d))
-    go (inr d) = rw (marked k h, ne_eqb k (x % 32) (λ f. d (f ∙ same)), and-false b) (ap (λ (c : Bool). c && q k) (later (ltb k v) refl))
-      where
-        later : (c : Bool) → ltb k v ≡ c → ltb k v ≡ ltb k (v + 1)
-        later true f = f ∙ sym (lt-ltb k (v + 1) (omega (arith, ltb-true k v f)))
-        later false f = f ∙ sym (le-ltb k (v + 1) (omega (arith, ltb-false k v f, d)))
 
 pub marks_all : (q : ℕ → Bool) (n v word : ℕ) → n ≤ 32 → n ≤ v → v ≤ n → Marks q v word → worlds_in word ≡ filter q (below n)
 marks_all q n v word few past up marked = let e : v ≡ n = omega (arith, past, up) in worlds_as q word n few (λ k h. rw (← e) (marked k h))

@@ -1,16 +1,17 @@
 -- The worlds that occur on a path, gathered from its nodes.
-use Prim.Native.Nat.{ℕ, zero, suc, ◌+◌, ◌-◌, ◌%◌, ◌<◌, ◌≤◌}
+use Prim.Native.Nat.{ℕ, zero, suc, ◌+◌, ◌-◌, ◌<◌, ◌≤◌}
 use mathlib.Core.Path.{◌≡◌, refl, sym, ap, ◌∙◌, subst}
-use mathlib.Core.Bool.{Bool, true, false, cond, ◌&&◌, ◌||◌, and-true, and-false, or-false}
+use mathlib.Core.Bool.{Bool, true, false, ◌&&◌, ◌||◌, and-true, and-false, or-false}
 use mathlib.Core.List.{List, [], ◌∷◌}
 use mathlib.Core.Option.{Option, none, some}
+use Rattle.std.specs.Prelude.{Some}
 use mathlib.Core.Logic.{⊎_elim, ◌≢◌}
 use native.Mathlib.Omega.{arith}
 use native.Mathlib.Numerals.{add-one}
 use lib.Dec.{ltb, eqb}
 use lib.ListN.{length, get_or, set, take, length-set}
 use lib.Seq.{take-suc, take_all, get_or-set_same, get_or-set_other}
-use borrow.Author.Tests.{ltb-true, ltb-false, eqb-false, ne_eqb}
+use borrow.Author.Tests.{ltb-true, ltb-false, eqb-false}
 use Rattle.definition.specs.Limits.{most_identifiers}
 use Rattle.bits.specs.Bits.{bit_of}
 use Rattle.bits.proofs.Power.{no_bit}
@@ -45,47 +46,34 @@ brings_all t (some k) v xs =
     any_or (λ x. eqb (node_at t x).world v) (λ x. eqb v k.world && eqb k.node x) xs
     ∙ ap (λ (b : Bool). any (λ x. eqb (node_at t x).world v) xs || b) (any_and (eqb v k.world) (eqb k.node) xs)
 
--- ---- one world more
-module _ (w word more : ℕ) where
-  pub world_high : 32 ≤ w → (k : ℕ) → k < 32 → bit_of word k ≡ (eqb w k || bit_of word k)
-  world_high h k low = rw (ne_eqb w k (λ e. omega (arith, e, h, low))) refl
-
-  pub world_low : w < 32 → ((k : ℕ) → k < 32 → bit_of more k ≡ (eqb k (w % 32) || bit_of word k)) → (k : ℕ) → k < 32 → bit_of more k ≡ (eqb w k || bit_of word k)
-  world_low h put k low =
-      let e : w % 32 ≡ w = omega (arith, h) in
-      put k low ∙ ap (λ (z : ℕ). eqb k z || bit_of word k) e ∙ ap (λ (b : Bool). b || bit_of word k) (eqb_sym k w)
-
--- ---- the worlds of one node
-module _ (t : List Node) (f : Forking) (x : ℕ) {b : Bool} (at : b ≡ (f.on && eqb f.node.0 x)) where
-  forked_by : (v : ℕ) → forked_at (fork_of f) v x ≡ (eqb v f.world.0 && b)
+-- ---- the worlds of one node: its own, and the new world at the forking node
+module _ (f : Forking) (x : ℕ) {b : Bool} (at : b ≡ eqb f.node.0 x) (v : ℕ) where
+  pub forked_here : b ≡ true → forked_at (fork_of (Some f)) v x ≡ eqb v f.world.0
   unfolding forked_at
-  forked_by v = go f.on at
-    where
-      k : Fork
-      k = record { node = f.node.0; world = f.world.0 }
+  forked_here h = ap (λ (c : Bool). eqb v f.world.0 && c) (sym at ∙ h) ∙ and-true (eqb v f.world.0)
 
-      go : (on : Bool) → b ≡ (on && eqb f.node.0 x) → forked_at (cond on (some k) none) v x ≡ (eqb v f.world.0 && b)
-      go true e = ap (λ (c : Bool). eqb v f.world.0 && c) (sym e)
-      go false e = sym (ap (λ (c : Bool). eqb v f.world.0 && c) e ∙ and-false (eqb v f.world.0))
+  pub forked_elsewhere : b ≡ false → forked_at (fork_of (Some f)) v x ≡ false
+  unfolding forked_at
+  forked_elsewhere h = ap (λ (c : Bool). eqb v f.world.0 && c) (sym at ∙ h) ∙ and-false (eqb v f.world.0)
 
-  module _ {w : ℕ} (word here : ℕ) (own : w ≡ (node_at t x).world) (put : (k : ℕ) → k < 32 → bit_of here k ≡ (eqb w k || bit_of word k)) where
-    own_world : (v : ℕ) → v < 32 → bit_of here v ≡ (eqb (node_at t x).world v || bit_of word v)
-    own_world v low = put v low ∙ ap (λ (z : ℕ). eqb z v || bit_of word v) own
+pub forked_nowhere : (x v : ℕ) → forked_at none v x ≡ false
+unfolding forked_at
+forked_nowhere x v = refl
 
-    pub brings_own : b ≡ false → (v : ℕ) → v < 32 → bit_of here v ≡ (brings t (fork_of f) v x || bit_of word v)
-    unfolding brings
-    brings_own h v low =
-        let no : forked_at (fork_of f) v x ≡ false = forked_by v ∙ ap (λ (c : Bool). eqb v f.world.0 && c) h ∙ and-false (eqb v f.world.0) in
-        own_world v low ∙ ap (λ (c : Bool). c || bit_of word v) (sym (or-false (eqb (node_at t x).world v)) ∙ ap (λ (c : Bool). eqb (node_at t x).world v || c) (sym no))
+module _ (t : List Node) (k : Option Fork) (x : ℕ) {w : ℕ} (word here : ℕ) (own : w ≡ (node_at t x).world) (put : (j : ℕ) → j < 32 → bit_of here j ≡ (eqb w j || bit_of word j)) where
+  own_world : (v : ℕ) → v < 32 → bit_of here v ≡ (eqb (node_at t x).world v || bit_of word v)
+  own_world v low = put v low ∙ ap (λ (z : ℕ). eqb z v || bit_of word v) own
 
-    pub brings_forked : b ≡ true → (both : ℕ) → ((k : ℕ) → k < 32 → bit_of both k ≡ (eqb f.world.0 k || bit_of here k)) → (v : ℕ) → v < 32 → bit_of both v ≡ (brings t (fork_of f) v x || bit_of word v)
-    unfolding brings
-    brings_forked h both more v low =
-        let new : eqb f.world.0 v ≡ forked_at (fork_of f) v x =
-        eqb_sym f.world.0 v ∙ sym (forked_by v ∙ ap (λ (c : Bool). eqb v f.world.0 && c) h ∙ and-true (eqb v f.world.0)) in
-        more v low ∙ ap (λ (c : Bool). eqb f.world.0 v || c) (own_world v low)
-        ∙ or_turned (eqb f.world.0 v) (eqb (node_at t x).world v) (bit_of word v)
-        ∙ ap (λ (c : Bool). (eqb (node_at t x).world v || c) || bit_of word v) new
+  pub brings_own : ((v : ℕ) → forked_at k v x ≡ false) → (v : ℕ) → v < 32 → bit_of here v ≡ (brings t k v x || bit_of word v)
+  unfolding brings
+  brings_own nowhere v low = own_world v low ∙ ap (λ (c : Bool). c || bit_of word v) (sym (or-false (eqb (node_at t x).world v)) ∙ ap (λ (c : Bool). eqb (node_at t x).world v || c) (sym (nowhere v)))
+
+  pub brings_forked : (new : ℕ) → ((v : ℕ) → forked_at k v x ≡ eqb v new) → (both : ℕ) → ((j : ℕ) → j < 32 → bit_of both j ≡ (eqb new j || bit_of here j)) → (v : ℕ) → v < 32 → bit_of both v ≡ (brings t k v x || bit_of word v)
+  unfolding brings
+  brings_forked new at both more v low =
+      more v low ∙ ap (λ (c : Bool). eqb new v || c) (own_world v low)
+      ∙ or_turned (eqb new v) (eqb (node_at t x).world v) (bit_of word v)
+      ∙ ap (λ (c : Bool). (eqb (node_at t x).world v || c) || bit_of word v) (eqb_sym new v ∙ sym (at v))
 
 -- ---- a climb that gathers the worlds: those that what is left of the path brings, and those of the word
 abbrev pub gathered : List Node → Option Fork → ℕ → ℕ → List ℕ → Bool

@@ -1,9 +1,10 @@
 -- The tree as it stood before a step: the first nodes of the table, whatever nodes the step has made since.
 use Rattle.std.specs.Prelude.{ℕ, ◌≡◌, List, ◌++◌, length}
 use Rattle.definition.specs.Tree.{Node}
-use Rattle.tree.specs.Lay.{Lays}
+use Rattle.tree.specs.Lay.{Laid}
+use Rattle.tree.specs.declared.ProofTree.{ProofTree}
 
-pub record Stands (t : List Node) (base : ℕ) (a : List ℕ) : Type 0 where
+pub record Stands (t : List Node) (base : ℕ) (x : ProofTree) : Type 0 where
   pub more : List Node
   pub count : length t ≡ base
-  pub lays : Lays (t ++ more) a
+  pub lays : Laid (t ++ more) x

@@ -1,5 +1,5 @@
 -- Laws of the stack of stored necessities.
-use Prim.Native.Nat.{ℕ, zero, suc, ◌+◌, ◌-◌, ◌*◌, ◌/◌, ◌%◌, ◌<◌}
+use Prim.Native.Nat.{ℕ, zero, suc, ◌+◌, ◌-◌, ◌*◌, ◌/◌, ◌<◌}
 use mathlib.Core.Path.{◌≡◌, refl, ap, ◌∙◌, subst}
 use mathlib.Core.Bool.{Bool, not, ◌&&◌, ◌||◌}
 use mathlib.Core.List.{List, [], ◌∷◌, reverse}
@@ -16,7 +16,7 @@ use Rattle.bits.specs.Bits.{bit_of, Bits}
 use Rattle.bits.specs.Worlds.{worlds_in}
 use Rattle.definition.specs.Modality.{Necessity}
 use Rattle.definition.proofs.Basics.Lists.{alike}
-use Rattle.necessities.specs.Stored.{InRow, InWord, number_at, Row}
+use Rattle.necessities.specs.Stored.{InRow, number_at, Row}
 use Rattle.necessities.specs.Change.{OtherRowsKept, Added}
 use Rattle.necessities.specs.Stack.{Stack, fresh, visits}
 use Rattle.necessities.proofs.Tables.{kept_then, clear_kept, clear_here}
@@ -35,21 +35,8 @@ stack_none =
       leaves_long = length-replicate {A = ℕ} leaf_words 0;
     }
 
--- ---- reads
+-- ---- a row
 module _ {n : Necessity} {k : ℕ} {a l : List ℕ} (h : Row n k a l) where
-  pub row_visited : {x : ℕ} → (k < most_identifiers → 3 < necessity_fields → x ≡ number_at a k 3) → InWord n.visited x
-  row_visited read = rw (read h.low (omega arith)) h.visited
-
-  pub row_leaves : {x : ℕ} → (k < most_identifiers → 4 < necessity_fields → x ≡ number_at a k 4) → InRow x n.leaves l
-  row_leaves read = rw (read h.low (omega arith)) h.leaves
-
-  -- one of the three numbers of 16 bits
-  pub row_short : {x v : ℕ} (j : ℕ) → j < 3 → (k < most_identifiers → j < necessity_fields → x ≡ number_at a k j) → number_at a k j ≡ v → x % 65536 ≡ v
-  row_short {x} {v} j low read e =
-      let at : x ≡ number_at a k j = read h.low (omega (arith, low)) in
-      let fits : number_at a k j < 65536 = h.short j low in
-      omega (arith, at, fits, e)
-
   -- the same numbers in another row, and the same leaves
   row_moved : {m : ℕ} {b t : List ℕ} → m < most_identifiers → ((j : ℕ) → j < necessity_fields → number_at b m j ≡ number_at a k j) → InRow (number_at a k 4) n.leaves t → Row n m b t
   row_moved {m} {b} {t} low same leaves =

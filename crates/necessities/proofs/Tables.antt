@@ -1,13 +1,13 @@
 -- Laws of one row of a table of bits.
 use Prim.Native.Nat.{ℕ, ◌+◌, ◌*◌, ◌/◌, ◌≤◌, ◌<◌}
-use mathlib.Core.Path.{◌≡◌, refl, sym, ap, subst, ◌∙◌}
+use mathlib.Core.Path.{◌≡◌, refl, sym, ap, ◌∙◌}
 use mathlib.Core.Bool.{Bool, true, false, not, ◌&&◌, ◌||◌}
-use mathlib.Core.List.{List, [], ◌∷◌, ◌++◌, append_assoc, append-nil}
+use mathlib.Core.List.{List, [], ◌∷◌, ◌++◌, append_assoc}
 use mathlib.Core.Logic.{◌≢◌}
 use native.Mathlib.Numerals.{add-one}
 use native.Mathlib.Omega.{arith}
 use lib.ListN.{length, get_or, take}
-use lib.Seq.{take-suc, take_all}
+use lib.Seq.{take-suc}
 use lib.Dec.{eqb, ltb}
 use borrow.Author.Tests.{eqb-true, eqb-false, eq-eqb, ne_eqb, lt-ltb, le-ltb, ltb-true, ltb-false}
 use Rattle.definition.specs.Limits.{most_identifiers}
@@ -57,17 +57,8 @@ module _ {k : ℕ} {l a : List ℕ} (r : InRow k l a) where
   row_kept b h e = in_row k l b r.row h (λ y q. e y q ∙ row_low y q) row_high
 
 -- ---- rows after changes
-pub kept_same : (k : ℕ) (a : List ℕ) → OtherRowsKept k a a
-kept_same k a = record { long = λ h. h; others = λ j l e r. r }
-
 pub kept_then : {k : ℕ} {a b c : List ℕ} → OtherRowsKept k a b → OtherRowsKept k b c → OtherRowsKept k a c
 kept_then p q = record { long = λ h. q.long (p.long h); others = λ j l e r. q.others j l e (p.others j l e r) }
-
-pub added_none : (k : ℕ) (a : List ℕ) → Added k [] a a
-added_none k a = record { kept = kept_same k a; here = λ old r. rw append-nil r }
-
-pub added_out : {k : ℕ} (l a : List ℕ) → most_identifiers ≤ k → Added k l a a
-added_out {k} l a h = record { kept = kept_same k a; here = λ old r. absurd (omega (arith, r.row)) }
 
 pub added_then : {k : ℕ} {l m a b c : List ℕ} → Added k l a b → Added k m b c → Added k (l ++ m) a c
 added_then {k} {l} {m} p q =
@@ -109,9 +100,6 @@ insert_next k {l} {a} {b} {c} i x m r h p n small e insert d =
     let t : i < length l = omega (arith, listed_count p n) in
     let q : x < most_identifiers = rw e (each_get (λ y. y < most_identifiers) l 0 small i (λ g. absurd (omega (arith, g, t)))) in
     rw (add-one, take-suc l i 0 t, ← e) (added_then d (insert_added k x b c r q insert))
-
-pub insert_end : {k : ℕ} {l a b w : List ℕ} (i m : ℕ) → m ≤ i → Listed l m w → m ≤ most_identifiers → Added k (take i l) a b → Added k l a b
-insert_end {k} {l} {a} {b} i m h p n d = subst (λ (v : List ℕ). Added k v a b) (take_all i l (omega (arith, listed_count p n))) d
 
 -- ---- a row emptied
 module _ (k : ℕ) (a b : List ℕ) (clear : (p : ℕ → Bool) → Bits p a → Bits (λ j. not (eqb (j / most_identifiers) k) && p j) b) where

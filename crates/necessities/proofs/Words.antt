@@ -1,11 +1,9 @@
 -- Laws of a word that has a bit for each number of a list.
-use Prim.Native.Nat.{ℕ, ◌%◌, ◌≤◌, ◌<◌}
-use mathlib.Core.Path.{◌≡◌, refl, sym, ap, ◌∙◌}
+use Prim.Native.Nat.{ℕ}
+use mathlib.Core.Path.{◌≡◌, refl, sym}
 use mathlib.Core.Bool.{Bool, true, false, ◌&&◌, ◌||◌}
 use mathlib.Core.List.{List, [], ◌++◌}
-use native.Mathlib.Omega.{arith}
 use lib.Dec.{ltb}
-use borrow.Author.Tests.{lt-ltb, le-ltb}
 use Rattle.bits.specs.Bits.{bit_of}
 use Rattle.bits.specs.Worlds.{worlds_in}
 use Rattle.bits.proofs.Power.{no_bit}
@@ -15,14 +13,6 @@ use Rattle.necessities.specs.Stored.{InWord}
 use Rattle.necessities.proofs.Tables.{elem_append}
 
 module _ {l : List ℕ} {w : ℕ} (d : InWord l w) where
-  pub word_none : (y : ℕ) → 32 ≤ y → false ≡ elem y l
-  word_none y h = rw (le-ltb y 32 h) at (d.same y)
-
-  pub word_has : (y : ℕ) {b : Bool} → y < 32 → b ≡ bit_of w (y % 32) → b ≡ elem y l
-  word_has y h e =
-      let m : y % 32 ≡ y = omega arith in
-      e ∙ ap (bit_of w) m ∙ (rw (lt-ltb y 32 h) at (d.same y))
-
   -- the worlds of another word too
   pub word_union : (more v : ℕ) → ((k : ℕ) → bit_of v k ≡ (bit_of w k || bit_of more k)) → InWord (l ++ worlds_in more) v
   word_union more v put = record { same = same }

@@ -3,6 +3,7 @@ use Rattle.std.specs.Prelude.{ℕ, ◌+◌, ◌≤◌, ◌<◌, ◌≡◌, List,
 use Rattle.definition.specs.Limits.{most_identifiers}
 use Rattle.limits.specs.Arrays.{necessity_cells, leaf_words}
 use Rattle.definition.specs.Modality.{Necessity}
+use Rattle.necessities.specs.declared.Necessities.{Necessities}
 use Rattle.necessities.specs.Stored.{number_at, Row}
 
 -- the rows are the stack's, from the bottom to the top: the necessity that stands i below the top has k below it. Leaf bits from row count on are free
@@ -13,6 +14,13 @@ pub record Stack (ns : List Necessity) (count : ℕ) (a leaves : List ℕ) : Typ
   pub used : (k : ℕ) → k < count → number_at a k 4 < count
   pub long : length a ≡ necessity_cells
   pub leaves_long : length leaves ≡ leaf_words
+
+-- the struct holds the stack; row k of the struct has the necessity
+abbrev pub HasStack : List Necessity → Necessities → Type 0
+HasStack ns x = Stack ns x.count x.cells x.leaves
+
+abbrev pub HasRow : Necessity → ℕ → Necessities → Type 0
+HasRow n k x = Row n k x.cells x.leaves
 
 -- a necessity that has visited no world
 unfoldable pub fresh : ℕ → ℕ → ℕ → List ℕ → Necessity

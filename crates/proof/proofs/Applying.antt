@@ -6,8 +6,6 @@ use mathlib.Core.List.{List}
 use mathlib.Core.Option.{Option}
 use lib.ListN.{length}
 use Rattle.definition.specs.Limits.{most_identifiers}
-use Rattle.limits.specs.Lent.{Lent}
-use Rattle.arrays.specs.Listed.{Listed}
 use Rattle.definition.specs.Lists.{all}
 use Rattle.definition.specs.Setting.{Setting}
 use Rattle.definition.specs.Records.{Rec}
@@ -18,34 +16,26 @@ use Rattle.definition.specs.Contradiction.{Pair, pairs, mark_all, is_pair}
 use Rattle.definition.specs.Run.{State, LogicRuleResult, apply_here, apply_possibility, apply_necessity, apply_rule, checked_for_contradictions, check_for_contradictions}
 use Rattle.definition.specs.TreeShape.{Treed}
 use Rattle.definition.proofs.Run.TreeKept.{here_treed}
-use Rattle.tree.specs.Lay.{Held}
+use Rattle.arrays.specs.Listed.{HasList}
+use Rattle.arrays.specs.declared.Numbers.{Numbers}
+use Rattle.tree.specs.Lay.{Held, HasNodes}
+use Rattle.tree.specs.declared.ProofTree.{ProofTree}
 use Rattle.subtree.specs.declared.ProofSubtree.{ProofSubtree}
-use Rattle.subtree.specs.declared.Counts.{Counts}
 use Rattle.subtree.specs.Subtree.{subtree_of, Chained, Left}
-use Rattle.rules.specs.declared.AppliedHere.{AppliedHere}
 use Rattle.rules.specs.Here.{here_of, Here}
-use Rattle.logic.specs.declared.Progress.{Progress}
+use Rattle.logic.specs.declared.Tableau.{Tableau}
 use Rattle.logic.specs.Applied.{Before, After}
 use Rattle.logic.proofs.Forked.{before_held}
 
--- the arrays, but with these formulas, nodes, waiting nodes and classes
-abbrev pub but : Lent → (formulas nodes waiting classes : List ℕ) → Lent
-but A formulas nodes waiting classes =
-    record { formulas = formulas; nodes = nodes; edges = A.edges; necessities = A.necessities; leaves = A.leaves; waiting = waiting; classes = classes }
-
--- the three chains as a subtree
-abbrev pub as_subtree : AppliedHere → ProofSubtree
-as_subtree h = record { left = h.left; middle = h.middle; right = h.right }
-
-pub here_after : (s : State) (x : ℕ) (recs : List Rec) (fs : Subtree) (q : List ℕ) {p : Progress} {B : Lent} {ta tb wa : List ℕ} {h : AppliedHere} {r : Counts} → Before p (but B B.formulas ta wa B.classes) s q →
-    (Held s.nodes p.nodes ta → Here s.nodes x (node_at s.nodes x).world fs h tb) →
-    ((ns : List Node) (q : List ℕ) (t : Subtree) → Held ns h.nodes tb → (h.nodes ≤ most_identifiers → Listed q p.waiting wa) → (length ns ≤ most_identifiers → Chained (as_subtree h) t (length ns)) → (length ns ≤ most_identifiers → Treed ns) → Left (append_subtree ns q x t) r B.nodes B.waiting) →
-    After (record { formulas = p.formulas; nodes = r.nodes; worlds = p.worlds; necessities = p.necessities; waiting = r.listed; steps = p.steps; proved = p.proved }) B s q (apply_here s x recs fs)
+pub here_after : (s : State) (x : ℕ) (recs : List Rec) (fs : Subtree) (q : List ℕ) {A : Tableau} {t u : ProofTree} {w : Numbers} {h : ProofSubtree} → Before A s q →
+    (HasNodes s.nodes A.tree → Here s.nodes x (node_at s.nodes x).world fs h t) →
+    ((ns : List Node) (q : List ℕ) (f : Subtree) → HasNodes ns t → (t.len ≤ most_identifiers → HasList q A.waiting) → (length ns ≤ most_identifiers → Chained h f (length ns)) → (length ns ≤ most_identifiers → Treed ns) → Left (append_subtree ns q x f) u w) →
+    After (record { tree = u; graph = A.graph; necessities = A.necessities; waiting = w }) s q (apply_here s x recs fs)
 unfolding apply_here append_logic_rule_result subtree_of
 here_after s x recs fs q b make place =
     let h = make (before_held b) in
     let out = place _ q (turned (numbered (length s.nodes) fs)) h.nodes (λ _. b.waiting)
-    (λ i. let low = h.below i in record { are = h.chains i; within = record { on_left = low.0.0; on_middle = low.0.1; on_right = low.1 } }) (λ _. here_treed s x recs fs b.treed) in
+    (λ i. record { are = h.chains i; within = h.below i }) (λ _. here_treed s x recs fs b.treed) in
     record { nodes = out.nodes; rest = λ small. record { waiting = out.queue small; graph = b.graph; necessities = b.necessities } }
 
 -- the rules at the formula's own world
@@ -73,11 +63,11 @@ module _ (F : Setting) (s : State) (x : ℕ) (recs : List Rec) where
   unfolding apply_rule
   rule_necessary f = refl
 
-pub after_as : (s : State) (q : List ℕ) {r r' : LogicRuleResult} {p : Progress} {B : Lent} → r ≡ r' → After p B s q r → After p B s q r'
-after_as s q {p = p} {B} e h = subst (λ (r : LogicRuleResult). After p B s q r) e h
+pub after_as : (s : State) (q : List ℕ) {r r' : LogicRuleResult} {A : Tableau} → r ≡ r' → After A s q r → After A s q r'
+after_as s q {A = A} e h = subst (λ (r : LogicRuleResult). After A s q r) e h
 
-pub after_here : (F : Setting) (s : State) (x : ℕ) (recs : List Rec) (q : List ℕ) (r : Rule ℕ) → Plain r → {p : Progress} {B : Lent} →
-    After p B s q (apply_here s x recs (here_of r)) → After p B s q (apply_rule F s x recs r)
+pub after_here : (F : Setting) (s : State) (x : ℕ) (recs : List Rec) (q : List ℕ) (r : Rule ℕ) → Plain r → {A : Tableau} →
+    After A s q (apply_here s x recs (here_of r)) → After A s q (apply_rule F s x recs r)
 after_here F s x recs q r plain h = after_as s q (rule_here F s x recs r plain) h
 
 -- contradictions
@@ -91,11 +81,11 @@ module _ (F : Setting) (s : State) where
   abbrev found : List (Option Pair)
   found = pairs s.formulas s.nodes (leaves s.nodes)
 
-  pub check_made : {r : Bool} {len : ℕ} {a : List ℕ} → F.skip ≡ false → Held (mark_all s.nodes found) len a → (len ≤ most_identifiers → r ≡ (s.proved || all is_pair found)) →
-      Held (check_for_contradictions F s).nodes len a × (len ≤ most_identifiers → r ≡ (check_for_contradictions F s).proved)
+  pub check_made : {r : Bool} {len old : ℕ} {a : List ℕ} → F.skip ≡ false → Held (mark_all s.nodes found) len a → (old ≤ most_identifiers → r ≡ (s.proved || all is_pair found)) →
+      Held (check_for_contradictions F s).nodes len a × (old ≤ most_identifiers → r ≡ (check_for_contradictions F s).proved)
   unfolding check_for_contradictions checked_for_contradictions
-  check_made {r = r} {len} {a} t h k =
-      subst (λ (c : Bool). Held (cond c s (checked_for_contradictions s)).nodes len a × (len ≤ most_identifiers → r ≡ (cond c s (checked_for_contradictions s)).proved)) (sym t) (h, k)
+  check_made {r = r} {len} {old} {a} t h k =
+      subst (λ (c : Bool). Held (cond c s (checked_for_contradictions s)).nodes len a × (old ≤ most_identifiers → r ≡ (cond c s (checked_for_contradictions s)).proved)) (sym t) (h, k)
 
 -- one path more, or none, where the run has proved and where it has not
 module _ (s : State) where

@@ -3,13 +3,12 @@ use mathlib.Core.Path.{◌≡◌, sym, ap, ◌∙◌, subst}
 use mathlib.Core.Bool.{Bool, true, false}
 use Prim.Native.Nat.{ℕ, suc, ◌≤◌, ◌<◌, ◌+◌, ◌-◌}
 use native.Mathlib.Omega.{arith}
-use Rattle.limits.specs.Lent.{Lent}
 use Rattle.definition.specs.Setting.{Setting}
 use Rattle.definition.specs.Run.{State, step, stops, run, enough_steps}
 use Rattle.definition.proofs.Run.Stepping.{steps_none, steps_next, steps_stop}
 use Rattle.definition.specs.Reached.{Reached}
 use Rattle.definition.proofs.Engine.Reached.{reached_step}
-use Rattle.logic.specs.declared.Progress.{Progress}
+use Rattle.proof.specs.declared.State as Rust
 use Rattle.proof.specs.StateHeld.{StateHeld}
 
 -- one step, where one is due
@@ -19,30 +18,30 @@ one_stays F s e = sym (steps_stop stops F 1 s e)
 pub one_step : (F : Setting) (s : State) → stops F s ≡ false → step F s ≡ run 1 F s
 one_step F s e = sym (steps_next stops F 0 s e ∙ steps_none stops F (step F s))
 
-pub kept_as : {F : Setting} {s z : State} {p : Progress} {A : Lent} → s ≡ z → StateHeld F s p A → StateHeld F z p A
-kept_as {F = F} {p = p} {A} e = subst (λ (z : State). StateHeld F z p A) e
+pub kept_as : {F : Setting} {s z : State} {x : Rust.State} → s ≡ z → StateHeld F s x → StateHeld F z x
+kept_as {F = F} {x = x} e = subst (λ (z : State). StateHeld F z x) e
 
 -- after n of one step more than there are identifiers
-pub record Going (F : Setting) (s : State) (n : ℕ) (p : Progress) (A : Lent) : Type 0 where
+pub record Going (F : Setting) (s : State) (n : ℕ) (x : Rust.State) : Type 0 where
   pub now : State
   pub reached : Reached F now
-  pub kept : StateHeld F now p A
+  pub kept : StateHeld F now x
   pub ends : run (enough_steps - n) F now ≡ run enough_steps F s
 
-module _ {F : Setting} {s : State} {n : ℕ} {p : Progress} {A : Lent} where
-  pub going_start : Reached F s → StateHeld F s p A → n ≡ 0 → Going F s n p A
+module _ {F : Setting} {s : State} {n : ℕ} {x : Rust.State} where
+  pub going_start : Reached F s → StateHeld F s x → n ≡ 0 → Going F s n x
   going_start r h e = record { now = s; reached = r; kept = h; ends = ap (λ (m : ℕ). run (enough_steps - m) F s) e }
 
-  pub going_stops : (g : Going F s n p A) {b : Bool} → b ≡ stops F g.now → b ≡ true → StateHeld F (run enough_steps F s) p A
+  pub going_stops : (g : Going F s n x) {b : Bool} → b ≡ stops F g.now → b ≡ true → StateHeld F (run enough_steps F s) x
   going_stops g e t = kept_as (sym (steps_stop stops F (enough_steps - n) g.now (sym e ∙ t)) ∙ g.ends) g.kept
 
-  pub going_ends : (g : Going F s n p A) → enough_steps ≤ n → StateHeld F (run enough_steps F s) p A
+  pub going_ends : (g : Going F s n x) → enough_steps ≤ n → StateHeld F (run enough_steps F s) x
   going_ends g h =
       let e : enough_steps - n ≡ 0 = omega (arith, h) in
       kept_as (sym (steps_none stops F g.now) ∙ ap (λ (m : ℕ). run m F g.now) (sym e) ∙ g.ends) g.kept
 
-  pub going_next : (g : Going F s n p A) → n < enough_steps → stops F g.now ≡ false →
-      {q : Progress} {B : Lent} → StateHeld F (run 1 F g.now) q B → Going F s (n + 1) q B
+  pub going_next : (g : Going F s n x) → n < enough_steps → stops F g.now ≡ false →
+      {y : Rust.State} → StateHeld F (run 1 F g.now) y → Going F s (n + 1) y
   going_next g h e next =
       let d : enough_steps - n ≡ suc (enough_steps - (n + 1)) = omega (arith, h) in
       record {

@@ -9,8 +9,8 @@ use lib.Dec.{leb}
 use borrow.Author.Tests.{leb-true, leb-false}
 use lib.ListN.{length, length-append}
 use Rattle.definition.specs.Limits.{most_identifiers, most_formulas}
-use Rattle.limits.specs.Lent.{Lent}
-use Rattle.arrays.specs.Listed.{Listed}
+use Rattle.arrays.specs.Listed.{HasList}
+use Rattle.arrays.specs.declared.Numbers.{Numbers}
 use Rattle.arrays.proofs.Listed.{listed_fits}
 use Rattle.definition.specs.Lists.{Each, empty}
 use Rattle.definition.specs.Setting.{Setting}
@@ -35,27 +35,31 @@ use Rattle.definition.proofs.Paths.Marks.{RunMarksRight}
 use Rattle.definition.specs.Shortcuts.{CheckedAt}
 use Rattle.definition.proofs.Engine.NewLeaves.{since_step}
 use Rattle.definition.proofs.Paths.Spawners.{Rooted, AllRooted}
-use Rattle.formula.specs.Recorded.{Recorded}
+use Rattle.formula.specs.Recorded.{HasRecords}
+use Rattle.formula.specs.declared.Formulas.{Formulas}
 use Rattle.formula.proofs.Recorded.{recorded_fits}
-use Rattle.graph.specs.Drawn.{Drawn}
-use Rattle.tree.specs.Lay.{Lays, Held, held, too_many}
+use Rattle.graph.specs.Drawn.{HasGraph}
+use Rattle.tree.specs.Lay.{Laid, Held, HasNodes, held, too_many}
+use Rattle.tree.specs.declared.ProofTree.{ProofTree}
 use Rattle.tree.specs.declared.ProofTreeNodeID.{ProofTreeNodeID}
 use Rattle.tree.proofs.Nodes.{held_ok, held_lays}
-use Rattle.queue.specs.declared.Popped.TheVariants as P
+use Rattle.std.specs.Prelude as P
 use Rattle.queue.specs.Taking.{answer, afterwards}
-use Rattle.rules.specs.declared.Expanded.{Expanded}
+use Rattle.rules.specs.declared.Consequence.{Consequence}
 use Rattle.rules.specs.Consequences.{consequence_of}
 use Rattle.rules.specs.Expands.{Expands}
-use Rattle.logic.specs.declared.Progress.{Progress}
-use Rattle.logic.specs.Applied.{Stacked, Before, After, Passed}
+use Rattle.necessities.specs.Stack.{HasStack}
+use Rattle.logic.specs.declared.Tableau.{Tableau}
+use Rattle.logic.specs.Applied.{Before, After}
+use Rattle.proof.specs.declared.State as Rust
 use Rattle.proof.specs.StateHeld.{StateLaid, StateHeld, kept, full}
-use Rattle.proof.proofs.Applying.{but, after_as}
+use Rattle.proof.proofs.Applying.{after_as}
 
 held_over : {ns : List Node} {len : ℕ} {a : List ℕ} → Held ns len a → most_identifiers < len → most_identifiers < length ns
 held_over (held b e q) h = absurd (omega arith)
 held_over (too_many b e) h = e
 
-pub kept_laid : {F : Setting} {s : State} {p : Progress} {A : Lent} → StateHeld F s p A → length s.nodes ≤ most_identifiers → StateLaid F s p A
+pub kept_laid : {F : Setting} {s : State} {x : Rust.State} → StateHeld F s x → length s.nodes ≤ most_identifiers → StateLaid F s x
 kept_laid (kept k) h = k
 kept_laid (full a b) h = absurd (omega arith)
 
@@ -63,22 +67,20 @@ pub waiting_some : (F : Setting) (s : State) → stops F s ≡ false → empty s
 waiting_some F s e = (not_stopped F s e).0.waits
 
 -- some node waits where a step is due, so that one is taken
-pub never_none : (F : Setting) (s : State) → stops F s ≡ false → answer (D.pop F s.formulas s.nodes s.waiting) ≡ P.None → ⊥
+pub never_none : (F : Setting) (s : State) → stops F s ≡ false → ((x : ProofTreeNodeID) → answer (D.pop F s.formulas s.nodes s.waiting) ≡ P.Some x → ⊥) → ⊥
 unfolding answer
 never_none F s e h =
     let (t, d) = pop_filled F s.formulas s.nodes s.waiting (waiting_some F s e) in
-    let clash : answer (some t) ≡ P.None = sym (ap answer d) ∙ h in
-    let o : ◌≡◌ {A = ℕ} 0 1 = cc in
-    absurd (omega arith)
+    h (record { 0 = t.node }) (ap answer d)
 
 -- which one
-pub taken_of : (o : Option D.Popped) (x : ProofTreeNodeID) (n : ℕ) → answer o ≡ P.Node x n → (q : List ℕ) × (o ≡ some (record { node = x.0; others = q })) × (length q ≡ n)
+pub taken_of : (o : Option D.Popped) (x : ProofTreeNodeID) → answer o ≡ P.Some x → (q : List ℕ) × (o ≡ some (record { node = x.0; others = q }))
 unfolding answer
-taken_of none x n e = let o : ◌≡◌ {A = ℕ} 0 1 = cc in absurd (omega arith)
-taken_of (some t) x n e =
+taken_of none x e = let o : ◌≡◌ {A = ℕ} 0 1 = cc in absurd (omega arith)
+taken_of (some t) x e =
     let y : ProofTreeNodeID = record { 0 = t.node } in
     let i : y ≡ x = cc in
-    (t.others, ap (λ (z : ProofTreeNodeID). some (record { node = z.0; others = t.others })) i, cc)
+    (t.others, ap (λ (z : ProofTreeNodeID). some (record { node = z.0; others = t.others })) i)
 
 -- what a check leaves alone
 record Alike (s z : State) : Type 0 where
@@ -94,28 +96,28 @@ checked_alike F s =
     checked_both (Alike s) F s (record { formulas = refl; graph = refl; necessities = refl; waiting = refl; steps = refl })
     (record { formulas = refl; graph = refl; necessities = refl; waiting = refl; steps = refl })
 
-pub laid_fits : {F : Setting} {s : State} {p : Progress} {A : Lent} → StateLaid F s p A → p.nodes ≤ most_identifiers
+pub laid_fits : {F : Setting} {s : State} {x : Rust.State} → StateLaid F s x → x.tableau.tree.len ≤ most_identifiers
 laid_fits l = omega (arith, l.room, l.count)
 
--- a state whose contradictions are checked, in arrays: its nodes and what is proved, and the rest as it was
-pub checked_laid : (F : Setting) (s : State) {p : Progress} {A : Lent} →
-    Recorded s.formulas p.formulas A.formulas → Drawn s.graph p.worlds A.edges → Stacked s.necessities p.necessities A → Listed s.waiting p.waiting A.waiting → Listed (map (D.get_node_priority F s.formulas s.nodes) s.waiting) p.waiting A.classes → p.steps ≡ s.steps →
-    Held (check_for_contradictions F s).nodes p.nodes A.nodes → p.proved ≡ (check_for_contradictions F s).proved → p.nodes ≤ most_identifiers → StateLaid F (check_for_contradictions F s) p A
-checked_laid F s {p} {A} r g n w k e nodes proved small =
+-- a state whose contradictions are checked: its nodes and what is proved, and the rest as it was
+pub checked_laid : (F : Setting) (s : State) {x : Rust.State} →
+    HasRecords s.formulas x.formulas → HasGraph s.graph x.tableau.graph → HasStack s.necessities x.tableau.necessities → HasList s.waiting x.tableau.waiting → HasList (map (D.get_node_priority F s.formulas s.nodes) s.waiting) x.classes → x.steps ≡ s.steps →
+    HasNodes (check_for_contradictions F s).nodes x.tableau.tree → x.proved ≡ (check_for_contradictions F s).proved → x.tableau.tree.len ≤ most_identifiers → StateLaid F (check_for_contradictions F s) x
+checked_laid F s {x} r g n w k e nodes proved small =
     let same = checked_alike F s in
     let h = held_ok nodes small in
     record {
-      formulas = subst (λ (l : List Rec). Recorded l p.formulas A.formulas) same.formulas r;
+      formulas = subst (λ (l : List Rec). HasRecords l x.formulas) same.formulas r;
       room = omega (arith, h.0, small);
       count = h.0;
       nodes = h.1;
-      graph = subst (λ (x : Graph). Drawn x p.worlds A.edges) same.graph g;
-      necessities = subst (λ (l : List Necessity). Stacked l p.necessities A) same.necessities n;
-      waiting = subst (λ (l : List ℕ). Listed l p.waiting A.waiting) same.waiting w;
+      graph = subst (λ (y : Graph). HasGraph y x.tableau.graph) same.graph g;
+      necessities = subst (λ (l : List Necessity). HasStack l x.tableau.necessities) same.necessities n;
+      waiting = subst (λ (l : List ℕ). HasList l x.tableau.waiting) same.waiting w;
       classes =
           let z = check_for_contradictions F s in
-          subst (λ (l : List ℕ). Listed (map (D.get_node_priority F z.formulas z.nodes) l) p.waiting A.classes) same.waiting
-          (subst (λ (l : List ℕ). Listed l p.waiting A.classes) (sym (classes_checked F s s.waiting)) k);
+          subst (λ (l : List ℕ). HasList (map (D.get_node_priority F z.formulas z.nodes) l) x.classes) same.waiting
+          (subst (λ (l : List ℕ). HasList l x.classes) (sym (classes_checked F s s.waiting)) k);
       proved = proved;
       steps = e ∙ same.steps;
     }
@@ -126,16 +128,16 @@ unfolding Counted
 waiting_fits F k s fit h = omega (arith, fit.bounded.counted, h)
 
 -- a state from which a step is due
-pub record Due (F : Setting) (k : ℕ) (s : State) (p : Progress) (A : Lent) : Type 0 where
+pub record Due (F : Setting) (k : ℕ) (s : State) (x : Rust.State) : Type 0 where
   pub fit : Fit F k s
   pub watch : RunMarksRight F s
   pub rooted : AllRooted s
   pub goes : stops F s ≡ false
   pub ready : Ready s
-  pub laid : StateLaid F s p A
-  pub few : p.waiting ≤ most_identifiers
+  pub laid : StateLaid F s x
+  pub few : x.tableau.waiting.len ≤ most_identifiers
 
-pub due : {F : Setting} {s : State} {p : Progress} {A : Lent} (reached : Reached F s) → StateHeld F s p A → stops F s ≡ false → Due F (reached_invariants F s reached).records s p A
+pub due : {F : Setting} {s : State} {x : Rust.State} (reached : Reached F s) → StateHeld F s x → stops F s ≡ false → Due F (reached_invariants F s reached).records s x
 due {F} {s} reached kp goes =
     let i = reached_invariants F s reached in
     let r = ready F i.records s i.fit goes in
@@ -143,8 +145,8 @@ due {F} {s} reached kp goes =
     record { fit = i.fit; watch = i.watch; rooted = i.rooted; goes = goes; ready = r; laid = l; few = listed_fits l.waiting (waiting_fits F i.records s i.fit r.nodes) }
 
 -- the state before the rule
-pub due_before : {F : Setting} {k : ℕ} {s : State} {p : Progress} {fa wa ca : List ℕ} {B : Lent} {n m i : ℕ} {q : List ℕ} → Due F k s p (but B fa B.nodes wa ca) → Listed q n B.waiting →
-    Before (record { formulas = m; nodes = p.nodes; worlds = p.worlds; necessities = p.necessities; waiting = n; steps = i; proved = p.proved }) B s q
+pub due_before : {F : Setting} {k : ℕ} {s : State} {x : Rust.State} {w : Numbers} {q : List ℕ} → Due F k s x → HasList q w →
+    Before (record { tree = x.tableau.tree; graph = x.tableau.graph; necessities = x.tableau.necessities; waiting = w }) s q
 due_before {s = s} d w =
     let r = d.ready in
     let l = d.laid in
@@ -161,22 +163,19 @@ due_before {s = s} d w =
       room = omega (arith, r.necessities, l.necessities.counted);
     }
 
-counted_as : {q : List ℕ} {n m : ℕ} {a : List ℕ} → n ≡ m → Listed q n a → Listed q m a
-counted_as {q} {a = a} e l = subst (λ (v : ℕ). Listed q v a) e l
-
 -- those that wait beside the node taken
-pub took : (w : List ℕ) (o : Option D.Popped) (x : ℕ) (q : List ℕ) {n : ℕ} {a : List ℕ} → o ≡ some (record { node = x; others = q }) → length q ≡ n → Listed (afterwards w o) (length (afterwards w o)) a → Listed q n a
+pub took : (w : List ℕ) (o : Option D.Popped) (x : ℕ) (q : List ℕ) {a : Numbers} → o ≡ some (record { node = x; others = q }) → HasList (afterwards w o) a → HasList q a
 unfolding afterwards
-took w o x q {a = a} e c l = counted_as c (subst (λ (v : Option D.Popped). Listed (afterwards w v) (length (afterwards w v)) a) e l)
+took w o x q {a} e l = subst (λ (v : Option D.Popped). HasList (afterwards w v) a) e l
 
 -- and their classes
-pub took_classes : (f : ℕ → ℕ) (w : List ℕ) (o : Option D.Popped) (x : ℕ) (q : List ℕ) {n : ℕ} {a : List ℕ} → o ≡ some (record { node = x; others = q }) → length q ≡ n →
-    Listed (map f (afterwards w o)) (length (afterwards w o)) a → Listed (map f q) n a
+pub took_classes : (f : ℕ → ℕ) (w : List ℕ) (o : Option D.Popped) (x : ℕ) (q : List ℕ) {a : Numbers} → o ≡ some (record { node = x; others = q }) →
+    HasList (map f (afterwards w o)) a → HasList (map f q) a
 unfolding afterwards
-took_classes f w o x q {a = a} e c l = counted_as c (subst (λ (v : Option D.Popped). Listed (map f (afterwards w v)) (length (afterwards w v)) a) e l)
+took_classes f w o x q {a} e l = subst (λ (v : Option D.Popped). HasList (map f (afterwards w v)) a) e l
 
-pub expands_as : {rs : List Rec} {g h : ℕ} {e : Expanded} {a : List ℕ} → g ≡ h → Expands rs (expansion rs g) e a → Expands rs (expansion rs h) e a
-expands_as {rs} {e = e} {a = a} d k = subst (λ (v : ℕ). Expands rs (expansion rs v) e a) d k
+pub expands_as : {rs : List Rec} {g h : ℕ} {e : Consequence} {a : Formulas} → g ≡ h → Expands rs (expansion rs g) e a → Expands rs (expansion rs h) e a
+expands_as {rs} {e = e} {a} d k = subst (λ (v : ℕ). Expands rs (expansion rs v) e a) d k
 
 module _ (F : Setting) (s : State) (x : ℕ) (q : List ℕ) where
   abbrev f : ℕ
@@ -191,27 +190,27 @@ module _ (F : Setting) (s : State) (x : ℕ) (q : List ℕ) where
   abbrev next : State
   next = appended F s taken
 
-  formulas_fit : length s.formulas + 2 ≤ most_formulas → {n : ℕ} {a : List ℕ} → Recorded (s.formulas ++ recs) n a → n ≤ most_formulas
+  formulas_fit : length s.formulas + 2 ≤ most_formulas → {a : Formulas} → HasRecords (s.formulas ++ recs) a → a.count ≤ most_formulas
   formulas_fit h r = recorded_fits r (omega (arith, h, length-append s.formulas recs, made_two s.formulas f))
 
   -- the rule's result, as the step has it
-  abbrev Applied : Progress → Lent → Type 0
-  Applied a B = After a B s q (apply F s x)
+  abbrev Applied : Tableau → Type 0
+  Applied A = After A s q (apply F s x)
 
-  next_after : {e : Expanded} {fb : List ℕ} {a : Progress} {B : Lent} → e.formulas ≤ most_formulas → Expands s.formulas (expansion s.formulas f) e fb →
-      After a B s q (apply_rule F s x recs (consequence_of e.rule)) → Applied a B
+  next_after : {e : Consequence} {g : Formulas} {A : Tableau} → g.count ≤ most_formulas → Expands s.formulas (expansion s.formulas f) e g →
+      After A s q (apply_rule F s x recs (consequence_of e)) → Applied A
   unfolding apply
   next_after small ex h = after_as s q (ap (apply_rule F s x recs) (ex.rule small)) h
 
-  next_records : {n : ℕ} {a : List ℕ} → Recorded (s.formulas ++ recs) n a → Recorded next.formulas n a
+  next_records : {a : Formulas} → HasRecords (s.formulas ++ recs) a → HasRecords next.formulas a
   unfolding appended apply
-  next_records {n} {a} r = subst (λ (l : List Rec). Recorded (s.formulas ++ l) n a) (sym (rule_made F s x recs (expansion s.formulas f).rule)) r
+  next_records {a} r = subst (λ (l : List Rec). HasRecords (s.formulas ++ l) a) (sym (rule_made F s x recs (expansion s.formulas f).rule)) r
 
-  next_nodes : {a : Progress} {B : Lent} → Applied a B → Held next.nodes a.nodes B.nodes
+  next_nodes : {A : Tableau} → Applied A → HasNodes next.nodes A.tree
   unfolding appended
   next_nodes h = h.nodes
 
-  next_waiting : {a : Progress} {B : Lent} → Applied a B → a.nodes ≤ most_identifiers → Listed next.waiting a.waiting B.waiting
+  next_waiting : {A : Tableau} → Applied A → A.tree.len ≤ most_identifiers → HasList next.waiting A.waiting
   unfolding appended
   next_waiting h fits = (h.rest fits).waiting
 
@@ -230,36 +229,39 @@ module _ (F : Setting) (s : State) (x : ℕ) (q : List ℕ) where
   unfolding appended
   next_proved = refl
 
-  -- the counts of a, and whether the run has proved
-  abbrev told : Progress → Bool → Progress
-  told a proved = record { formulas = a.formulas; nodes = a.nodes; worlds = a.worlds; necessities = a.necessities; waiting = a.waiting; steps = a.steps; proved = proved }
+  -- the struct after the step
+  abbrev after : Tableau → Formulas → Numbers → ProofTree → ℕ → Bool → Rust.State
+  after A g c t steps proved =
+      record { formulas = g; tableau = record { tree = t; graph = A.graph; necessities = A.necessities; waiting = A.waiting }; classes = c; steps = steps; proved = proved }
 
-  module _ {a : Progress} {proved : Bool} {tb cz : List ℕ} {B : Lent} (h : Applied a (but B B.formulas tb B.waiting cz)) (r : Recorded next.formulas a.formulas B.formulas) (e : a.steps ≡ suc s.steps)
-      (nodes : Held (check_for_contradictions F next).nodes a.nodes B.nodes) (says : a.nodes ≤ most_identifiers → proved ≡ (check_for_contradictions F next).proved)
-      (classes : a.nodes ≤ most_identifiers → Listed (map (D.get_node_priority F next.formulas next.nodes) next.waiting) a.waiting B.classes) where
-    stepped_laid : a.nodes ≤ most_identifiers → StateLaid F (check_for_contradictions F next) (told a proved) B
-    unfolding appended
-    stepped_laid small = let rest = h.rest small in checked_laid F next r rest.graph rest.necessities rest.waiting (classes small) e nodes (says small) small
+  module _ {A : Tableau} {g : Formulas} {c : Numbers} {t : ProofTree} {steps : ℕ} {proved : Bool} where
+    module _ (h : Applied A) (same : t.len ≡ A.tree.len) (r : HasRecords next.formulas g) (e : steps ≡ suc s.steps)
+        (nodes : HasNodes (check_for_contradictions F next).nodes t) (says : A.tree.len ≤ most_identifiers → proved ≡ (check_for_contradictions F next).proved)
+        (classes : A.tree.len ≤ most_identifiers → HasList (map (D.get_node_priority F next.formulas next.nodes) next.waiting) c) where
+      stepped_laid : A.tree.len ≤ most_identifiers → StateLaid F (check_for_contradictions F next) (after A g c t steps proved)
+      unfolding appended
+      stepped_laid small = let rest = h.rest small in checked_laid F next r rest.graph rest.necessities rest.waiting (classes small) e nodes (says small) (omega (arith, same, small))
 
-    stepped_kept : StateHeld F (check_for_contradictions F next) (told a proved) B
-    stepped_kept = go (leb a.nodes most_identifiers) refl
-      where
-        go : (b : Bool) → leb a.nodes most_identifiers ≡ b → StateHeld F (check_for_contradictions F next) (told a proved) B
-        go true t = kept (stepped_laid (leb-true a.nodes most_identifiers t))
-        go false t = full (leb-false a.nodes most_identifiers t) (held_over nodes (leb-false a.nodes most_identifiers t))
+      stepped_kept : StateHeld F (check_for_contradictions F next) (after A g c t steps proved)
+      stepped_kept = go (leb A.tree.len most_identifiers) refl
+        where
+          go : (b : Bool) → leb A.tree.len most_identifiers ≡ b → StateHeld F (check_for_contradictions F next) (after A g c t steps proved)
+          go true k = kept (stepped_laid (leb-true A.tree.len most_identifiers k))
+          go false k =
+              let over : most_identifiers < t.len = omega (arith, same, leb-false A.tree.len most_identifiers k) in
+              full over (held_over nodes over)
 
-  pub stepped : {k : ℕ} {p : Progress} {A : Lent} → Due F k s p A → D.pop F s.formulas s.nodes s.waiting ≡ some taken →
-      {e : Expanded} {a b : Progress} {tb cz : List ℕ} {B : Lent} → Expands s.formulas (expansion s.formulas f) e B.formulas → e.formulas ≡ b.formulas → (p.steps < most_identifiers → b.steps ≡ suc p.steps) →
-      Passed b a → After a (but B B.formulas tb B.waiting cz) s q (apply_rule F s x recs (consequence_of e.rule)) →
-      {n : ℕ} → length q ≡ n → Listed (map (D.get_node_priority F s.formulas s.nodes) q) n cz →
-      ((F : Setting) (rs : List Rec) (ns : List Node) (q more : List ℕ) → Recorded rs e.formulas B.formulas → e.formulas ≤ most_formulas → Lays ns tb → Listed (q ++ more) a.waiting B.waiting → a.waiting ≤ most_identifiers → length q ≡ n →
-      Listed (map (D.get_node_priority F rs ns) q) n cz → Listed (map (D.get_node_priority F rs ns) (q ++ more)) a.waiting B.classes) →
-      {proved : Bool} →
-      ((z : State) → p.proved ≡ z.proved → Recorded z.formulas e.formulas B.formulas → e.formulas ≤ most_formulas → Held z.nodes a.nodes tb → (F.skip ≡ false → a.nodes ≤ most_identifiers → CheckedAt z.formulas z.nodes p.nodes) →
-      Held (check_for_contradictions F z).nodes a.nodes B.nodes × (a.nodes ≤ most_identifiers → proved ≡ (check_for_contradictions F z).proved)) →
-      StateHeld F (step F s) (told a proved) B
+  pub stepped : {k : ℕ} {y : Rust.State} → Due F k s y → D.pop F s.formulas s.nodes s.waiting ≡ some taken →
+      {e : Consequence} {A : Tableau} {g : Formulas} {c d : Numbers} {t : ProofTree} {steps : ℕ} {proved : Bool} → Expands s.formulas (expansion s.formulas f) e g → (y.steps < most_identifiers → steps ≡ suc y.steps) →
+      After A s q (apply_rule F s x recs (consequence_of e)) → HasList (map (D.get_node_priority F s.formulas s.nodes) q) c →
+      ((F : Setting) (rs : List Rec) (ns : List Node) (q more : List ℕ) → HasRecords rs g → g.count ≤ most_formulas → Laid ns A.tree → HasList (q ++ more) A.waiting → A.waiting.len ≤ most_identifiers →
+      HasList (map (D.get_node_priority F rs ns) q) c → HasList (map (D.get_node_priority F rs ns) (q ++ more)) d) →
+      t.len ≡ A.tree.len →
+      ((z : State) → y.proved ≡ z.proved → HasRecords z.formulas g → g.count ≤ most_formulas → HasNodes z.nodes A.tree → (F.skip ≡ false → A.tree.len ≤ most_identifiers → CheckedAt z.formulas z.nodes y.tableau.tree.len) →
+      HasNodes (check_for_contradictions F z).nodes t × (A.tree.len ≤ most_identifiers → proved ≡ (check_for_contradictions F z).proved)) →
+      StateHeld F (step F s) (after A g d t steps proved)
   unfolding Counted
-  stepped {k} {p} d o {e} {a} {b} {tb} {cz} {B} ex same count passed af {n} size known classify {proved} check =
+  stepped {k} {y} d o {e} {A} {g} {c} {d = c'} {t} {steps} {proved} ex count af known classify same check =
       let fit = d.fit in
       let r = d.ready in
       let l = d.laid in
@@ -267,14 +269,14 @@ module _ (F : Setting) (s : State) (x : ℕ) (q : List ℕ) where
       let h = next_after small ex af in
       let rec = next_records ex.records in
       let nodes = next_nodes h in
-      let c = check next (l.proved ∙ sym next_proved) rec small nodes (λ e fits. subst (CheckedAt next.formulas next.nodes) l.count
+      let checked = check next (l.proved ∙ sym next_proved) rec small nodes (λ e fits. subst (CheckedAt next.formulas next.nodes) l.count
       (since_step F k s taken fit d.goes (omega (arith, (held_ok nodes fits).0, fits)) (d.watch e (omega (arith, r.nodes))))) in
-      let low : p.steps < most_identifiers = omega (arith, l.steps, fit.bounded.counted, r.nodes, filled s.waiting (waiting_some F s d.goes)) in
-      subst (λ (z : State). StateHeld F z (told a proved) B) (sym (step_is F s taken o))
-      (stepped_kept h (subst (λ (v : ℕ). Recorded next.formulas v B.formulas) (same ∙ sym passed.formulas) rec) (passed.steps ∙ count low ∙ ap suc l.steps) c.0 c.1 (λ fits.
+      let low : y.steps < most_identifiers = omega (arith, l.steps, fit.bounded.counted, r.nodes, filled s.waiting (waiting_some F s d.goes)) in
+      subst (λ (z : State). StateHeld F z (after A g c' t steps proved)) (sym (step_is F s taken o))
+      (stepped_kept h same rec (count low ∙ ap suc l.steps) checked.0 checked.1 (λ fits.
       let w = queued F s taken in
       let ok = held_ok nodes fits in
-      let put = subst (λ (v : List ℕ). Listed v a.waiting B.waiting) w.1 (next_waiting h fits) in
-      subst (λ (v : List ℕ). Listed (map (D.get_node_priority F next.formulas next.nodes) v) a.waiting B.classes) (sym w.1)
-      (classify F next.formulas next.nodes q w.0 rec small (held_lays nodes fits) put (listed_fits (next_waiting h fits) (omega (arith, next_counted k fit o, ok.0, fits))) size
-      (subst (λ (v : List ℕ). Listed v n cz) (sym (classes_appended F k s taken fit q (others_known k fit o))) known))))
+      let put = subst (λ (v : List ℕ). HasList v A.waiting) w.1 (next_waiting h fits) in
+      subst (λ (v : List ℕ). HasList (map (D.get_node_priority F next.formulas next.nodes) v) c') (sym w.1)
+      (classify F next.formulas next.nodes q w.0 rec small (held_lays nodes fits) put (listed_fits (next_waiting h fits) (omega (arith, next_counted k fit o, ok.0, fits)))
+      (subst (λ (v : List ℕ). HasList v c) (sym (classes_appended F k s taken fit q (others_known k fit o))) known))))

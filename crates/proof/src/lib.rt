@@ -5,117 +5,77 @@ ghost use Rattle.std.specs.Prelude.{◌≡◌, false, List, ℕ, suc, ◌<◌, �
 ghost use Rattle.definition.specs.Limits.{most_identifiers, most_formulas};
 ghost use Rattle.definition.specs.Records.{Rec};
 ghost use Rattle.definition.specs.Setting as D;
-ghost use Rattle.definition.specs.Run.{State, apply_here, apply_rule, check_for_contradictions, stops, run, enough_steps};
+ghost use Rattle.definition.specs.Run as R;
+ghost use Rattle.definition.specs.Run.{apply_here, apply_rule, check_for_contradictions, stops, run, enough_steps};
 ghost use Rattle.definition.specs.Reached.{Reached};
 ghost use Rattle.definition.specs.Shortcuts.{CheckedAt};
-ghost use Rattle.limits.specs.Lent.{Lent};
-ghost use Rattle.formula.specs.Recorded.{Recorded};
+ghost use Rattle.formula.specs.Recorded.{HasRecords};
 ghost use Rattle.setting.specs.Asked.{asked};
-ghost use Rattle.tree.specs.Lay.{Held};
+ghost use Rattle.tree.specs.Lay.{HasNodes};
 ghost use Rattle.rules.specs.Consequences.{consequence_of};
 ghost use Rattle.rules.specs.Here.{here_of};
-ghost use Rattle.logic.specs.Applied.{Before, After, Passed};
+ghost use Rattle.logic.specs.Applied.{Before, After};
 ghost use Rattle.proof.specs.StateHeld.{StateLaid, StateHeld};
 
+use arrays::Numbers;
 use contradictions::check_for_contradictions;
-use limits::{
-    Classes, ENOUGH_STEPS, Edges, FULL, Formulas, Leaves, MOST_IDENTIFIERS, Necessities, Nodes,
-    WORLD_LIMIT, Waiting,
-};
-use logic::{Progress, apply_necessity, apply_possibility};
-use queue::{Popped, classify, pop};
+use formula::Formulas;
+use limits::{ENOUGH_STEPS, FULL, MOST_IDENTIFIERS, WORLD_LIMIT};
+use logic::{Tableau, apply_necessity, apply_possibility};
+use queue::{classify, pop};
 use rules::{Consequence, apply_here, expand};
 use setting::Setting;
-use subtree::{ProofSubtree, append_subtree};
-use tree::{ProofTreeNodeID, formula_of};
+use subtree::append_subtree;
+use tree::{ProofTree, ProofTreeNodeID};
+
+// The state of a run: the formulas, what the rules work on, the classes of the nodes that wait, how many steps were made, and whether it has proved.
+#[derive(Drop)]
+pub struct State {
+    pub formulas: Formulas,
+    pub tableau: Tableau,
+    pub classes: Numbers,
+    pub steps: usize,
+    pub proved: bool,
+}
 
 // No step is due.
-fn stops(p: Progress) -> bool
-    ensures { (F : D.Setting) (s : State) (A : Lent) → StateHeld F s p A → result ≡ stops F s }
+fn stops(state: &State) -> bool
+    ensures { (F : D.Setting) (s : R.State) → StateHeld F s state.now → result ≡ stops F s }
 {
-    if MOST_IDENTIFIERS < p.nodes {
+    if MOST_IDENTIFIERS < state.tableau.tree.len {
         return true;
     }
-    if p.proved {
+    if state.proved {
         return true;
     }
-    if p.waiting == 0 {
+    if state.tableau.waiting.len == 0 {
         return true;
     }
-    WORLD_LIMIT <= p.worlds
+    WORLD_LIMIT <= state.tableau.graph.worlds
 }
 
 // The rule's nodes at its own world, placed.
-fn append_here(
-    p: Progress,
-    x: ProofTreeNodeID,
-    rule: Consequence,
-    nodes: &mut Nodes,
-    waiting: &mut Waiting,
-) -> Progress
-    ensures { Passed p result × ((s : State) (more : List Rec) (q formulas edges necessities leaves classes : List ℕ)
-        → Before p (record { formulas = formulas; nodes = nodes.old; edges = edges; necessities = necessities; leaves = leaves; waiting = waiting.old; classes = classes }) s q
-        → After result (record { formulas = formulas; nodes = nodes.new; edges = edges; necessities = necessities; leaves = leaves; waiting = waiting.new; classes = classes }) s q (apply_here s x.0 more (here_of (consequence_of rule)))) }
+fn append_here(tableau: &mut Tableau, x: ProofTreeNodeID, rule: Consequence)
+    ensures { (s : R.State) (more : List Rec) (q : List ℕ) → Before tableau.old s q
+        → After tableau.new s q (apply_here s x.0 more (here_of (consequence_of rule))) }
 {
-    let h = apply_here(nodes, p.nodes, x, rule);
-    let left = h.left;
-    let middle = h.middle;
-    let right = h.right;
-    let t = ProofSubtree {
-        left,
-        middle,
-        right,
-    };
-    let placed = append_subtree(nodes, h.nodes, x, t, waiting, p.waiting);
-    let mut after = p;
-    after.nodes = placed.nodes;
-    after.waiting = placed.listed;
-    after
+    let subtree = apply_here(&mut tableau.tree, x, rule);
+    append_subtree(&mut tableau.tree, x, subtree, &mut tableau.waiting);
 }
 
 // The rule of node x, by its consequence.
-fn apply(
-    setting: Setting,
-    p: Progress,
-    x: ProofTreeNodeID,
-    rule: Consequence,
-    nodes: &mut Nodes,
-    edges: &mut Edges,
-    necessities: &mut Necessities,
-    leaves: &mut Leaves,
-    waiting: &mut Waiting,
-) -> Progress
-    ensures { Passed p result × ((s : State) (more : List Rec) (q formulas classes : List ℕ)
-        → Before p (record { formulas = formulas; nodes = nodes.old; edges = edges.old; necessities = necessities.old; leaves = leaves.old; waiting = waiting.old; classes = classes }) s q
-        → After result (record { formulas = formulas; nodes = nodes.new; edges = edges.new; necessities = necessities.new; leaves = leaves.new; waiting = waiting.new; classes = classes }) s q (apply_rule (asked setting) s x.0 more (consequence_of rule))) }
+fn apply(tableau: &mut Tableau, setting: Setting, x: ProofTreeNodeID, rule: Consequence)
+    ensures { (s : R.State) (more : List Rec) (q : List ℕ) → Before tableau.old s q
+        → After tableau.new s q (apply_rule (asked setting) s x.0 more (consequence_of rule)) }
 {
     match rule {
-        Consequence::AsPossible(f) => apply_possibility(
-            setting,
-            p,
-            x,
-            f,
-            nodes,
-            edges,
-            necessities,
-            waiting,
-        ),
-        Consequence::AsNecessary(f) => apply_necessity(
-            setting,
-            p,
-            x,
-            f,
-            nodes,
-            edges,
-            necessities,
-            leaves,
-            waiting,
-        ),
-        Consequence::Nothing => append_here(p, x, rule, nodes, waiting),
-        Consequence::Down1(_) => append_here(p, x, rule, nodes, waiting),
-        Consequence::Down2(_, _) => append_here(p, x, rule, nodes, waiting),
-        Consequence::Split1(_, _) => append_here(p, x, rule, nodes, waiting),
-        Consequence::Split2(_, _, _, _) => append_here(p, x, rule, nodes, waiting),
+        Consequence::AsPossible(f) => apply_possibility(tableau, setting, x, f),
+        Consequence::AsNecessary(f) => apply_necessity(tableau, setting, x, f),
+        Consequence::Nothing
+        | Consequence::Down1(_)
+        | Consequence::Down2(_, _)
+        | Consequence::Split1(_, _)
+        | Consequence::Split2(_, _, _, _) => append_here(tableau, x, rule),
     }
 }
 
@@ -134,120 +94,77 @@ fn check(
     setting: Setting,
     proved: bool,
     formulas: &Formulas,
-    count: usize,
-    nodes: &mut Nodes,
-    len: usize,
+    tree: &mut ProofTree,
     old: usize,
 ) -> bool
-    ensures { (s : State) → proved ≡ s.proved → Recorded s.formulas count formulas.now → count ≤ most_formulas → Held s.nodes len nodes.old → ((asked setting).skip ≡ false → len ≤ most_identifiers → CheckedAt s.formulas s.nodes old)
-        → Held (check_for_contradictions (asked setting) s).nodes len nodes.new × (len ≤ most_identifiers → result ≡ (check_for_contradictions (asked setting) s).proved) }
+    ensures { (tree.new.len ≡ tree.old.len)
+        × ((s : R.State) → proved ≡ s.proved → HasRecords s.formulas formulas.now → formulas.now.count ≤ most_formulas → HasNodes s.nodes tree.old → ((asked setting).skip ≡ false → tree.old.len ≤ most_identifiers → CheckedAt s.formulas s.nodes old)
+        → HasNodes (check_for_contradictions (asked setting) s).nodes tree.new × (tree.old.len ≤ most_identifiers → result ≡ (check_for_contradictions (asked setting) s).proved)) }
 {
     if setting.skip {
         return proved;
     }
-    let every = check_for_contradictions(formulas, count, nodes, len, old);
+    let every = check_for_contradictions(formulas, tree, old);
     if proved {
         return true;
     }
     every
 }
 
-// The state before any step: contradictions are checked once, unless they are skipped.
-pub fn begin(setting: Setting, p: Progress, formulas: &Formulas, nodes: &mut Nodes) -> Progress
-    ensures { (s : State) (edges necessities leaves waiting classes : List ℕ) → p.formulas ≤ most_formulas → CheckedAt s.formulas s.nodes 0
-        → StateLaid (asked setting) s p (record { formulas = formulas.now; nodes = nodes.old; edges = edges; necessities = necessities; leaves = leaves; waiting = waiting; classes = classes })
-        → StateHeld (asked setting) (check_for_contradictions (asked setting) s) result (record { formulas = formulas.now; nodes = nodes.new; edges = edges; necessities = necessities; leaves = leaves; waiting = waiting; classes = classes }) }
-{
-    let mut checked = p;
-    checked.proved = check(setting, p.proved, formulas, p.formulas, nodes, p.nodes, 0);
-    checked
-}
-
-// One step, where one is due; else the state stays.
-fn step(
-    setting: Setting,
-    p: Progress,
-    formulas: &mut Formulas,
-    nodes: &mut Nodes,
-    edges: &mut Edges,
-    necessities: &mut Necessities,
-    leaves: &mut Leaves,
-    waiting: &mut Waiting,
-    classes: &mut Classes,
-) -> Progress
-    ensures { (s : State) → Reached (asked setting) s
-        → StateHeld (asked setting) s p (record { formulas = formulas.old; nodes = nodes.old; edges = edges.old; necessities = necessities.old; leaves = leaves.old; waiting = waiting.old; classes = classes.old })
-        → StateHeld (asked setting) (run 1 (asked setting) s) result (record { formulas = formulas.new; nodes = nodes.new; edges = edges.new; necessities = necessities.new; leaves = leaves.new; waiting = waiting.new; classes = classes.new }) }
-{
-    if stops(p) {
-        return p;
-    }
-    match pop(waiting, classes, p.waiting) {
-        Popped::None => p,
-        Popped::Node {
-            id,
-            waiting: others,
-        } => {
-            let e = expand(formulas, p.formulas, formula_of(nodes, id));
-            let rule = e.rule;
-            let mut taken = p;
-            taken.formulas = e.formulas;
-            taken.waiting = others;
-            taken.steps = next_step(p.steps);
-            let mut after = apply(
-                setting,
-                taken,
-                id,
-                rule,
-                nodes,
-                edges,
-                necessities,
-                leaves,
-                waiting,
-            );
-            let n = after.waiting;
-            classify(formulas, e.formulas, nodes, waiting, n, classes, others);
-            let len = after.nodes;
-            after.proved = check(setting, p.proved, formulas, e.formulas, nodes, len, p.nodes);
-            after
-        }
-    }
-}
-
-// The steps until none is due.
-pub fn prove(
-    setting: Setting,
-    begun: Progress,
-    formulas: &mut Formulas,
-    nodes: &mut Nodes,
-    edges: &mut Edges,
-    necessities: &mut Necessities,
-    leaves: &mut Leaves,
-    waiting: &mut Waiting,
-    classes: &mut Classes,
-) -> Progress
-    ensures { (s : State) → Reached (asked setting) s
-        → StateHeld (asked setting) s begun (record { formulas = formulas.old; nodes = nodes.old; edges = edges.old; necessities = necessities.old; leaves = leaves.old; waiting = waiting.old; classes = classes.old })
-        → StateHeld (asked setting) (run enough_steps (asked setting) s) result (record { formulas = formulas.new; nodes = nodes.new; edges = edges.new; necessities = necessities.new; leaves = leaves.new; waiting = waiting.new; classes = classes.new }) }
-{
-    let mut p = begun;
-    let mut n: usize = 0;
-    while n < ENOUGH_STEPS {
-        if stops(p) {
-            return p;
-        }
-        p = step(
+impl State {
+    // The state before any step: contradictions are checked once, unless they are skipped.
+    pub fn begin(&mut self, setting: Setting)
+        ensures { (s : R.State) → self.old.formulas.count ≤ most_formulas → CheckedAt s.formulas s.nodes 0
+            → StateLaid (asked setting) s self.old → StateHeld (asked setting) (check_for_contradictions (asked setting) s) self.new }
+    {
+        self.proved = check(
             setting,
-            p,
-            formulas,
-            nodes,
-            edges,
-            necessities,
-            leaves,
-            waiting,
-            classes,
+            self.proved,
+            &self.formulas,
+            &mut self.tableau.tree,
+            0,
         );
-        n += 1;
     }
-    p
+
+    // One step, where one is due; else the state stays.
+    fn step(&mut self, setting: Setting)
+        ensures { (s : R.State) → Reached (asked setting) s → StateHeld (asked setting) s self.old → StateHeld (asked setting) (run 1 (asked setting) s) self.new }
+    {
+        if stops(self) {
+            return;
+        }
+        let Some(id) = pop(&mut self.tableau.waiting, &mut self.classes) else {
+            return;
+        };
+        let old = self.tableau.tree.len;
+        let f = self.tableau.tree.formula_of(id);
+        let rule = expand(&mut self.formulas, f);
+        self.steps = next_step(self.steps);
+        apply(&mut self.tableau, setting, id, rule);
+        classify(
+            &self.formulas,
+            &self.tableau.tree,
+            &self.tableau.waiting,
+            &mut self.classes,
+        );
+        self.proved = check(
+            setting,
+            self.proved,
+            &self.formulas,
+            &mut self.tableau.tree,
+            old,
+        );
+    }
+
+    // The steps until none is due.
+    pub fn prove(&mut self, setting: Setting)
+        ensures { (s : R.State) → Reached (asked setting) s → StateHeld (asked setting) s self.old → StateHeld (asked setting) (run enough_steps (asked setting) s) self.new }
+    {
+        for _ in 0..ENOUGH_STEPS {
+            if stops(self) {
+                return;
+            }
+            self.step(setting);
+        }
+    }
 }

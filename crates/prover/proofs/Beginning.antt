@@ -1,13 +1,13 @@
--- The branch in the arrays, before any step.
-use mathlib.Core.Path.{◌≡◌, refl, sym, ◌∙◌, ap}
+-- The branch in the state's struct, before any step.
+use mathlib.Core.Path.{◌≡◌, sym, ◌∙◌, ap}
 use mathlib.Core.Bool.{false}
 use mathlib.Core.List.{List, [], map}
 use Prim.Native.Nat.{ℕ, ◌≤◌, ◌/◌}
 use native.Mathlib.Omega.{arith}
 use lib.ListN.{length, length-reverse}
 use Rattle.definition.specs.Limits.{record_length, most_records, most_marked, most_identifiers, most_formulas}
-use Rattle.limits.specs.Lent.{Lent}
-use Rattle.arrays.specs.Listed.{Listed}
+use Rattle.arrays.specs.Listed.{HasList}
+use Rattle.arrays.specs.declared.Numbers.{Numbers}
 use Rattle.arrays.proofs.Listed.{listed_fits}
 use Rattle.definition.specs.Lists.{empty, below}
 use Rattle.definition.specs.Records.{Rec, decode, marks}
@@ -23,15 +23,17 @@ use Rattle.definition.proofs.Call.Fields.{begun_unmarked}
 use Rattle.definition.specs.Shortcuts.{CheckedAt}
 use Rattle.definition.proofs.Engine.NewLeaves.{since_all}
 use Rattle.definition.proofs.Run.TreeKept.{begun_treed}
-use Rattle.formula.specs.Recorded.{Recorded}
+use Rattle.formula.specs.Recorded.{HasRecords}
+use Rattle.formula.specs.declared.Formulas.{Formulas}
 use Rattle.formula.proofs.Recorded.{recorded_fits}
-use Rattle.graph.specs.Drawn.{Drawn}
-use Rattle.tree.specs.Lay.{Held, Lays, lay}
+use Rattle.graph.specs.Drawn.{HasGraph}
+use Rattle.tree.specs.Lay.{Laid, HasNodes, lay}
+use Rattle.tree.specs.declared.ProofTree.{ProofTree}
+use Rattle.necessities.specs.Stack.{HasStack}
 use Rattle.tree.proofs.Nodes.{held_ok, held_lays, held_fits}
-use Rattle.logic.specs.declared.Progress.{Progress}
-use Rattle.logic.specs.Applied.{Stacked}
+use Rattle.proof.specs.declared.State as Rust
 use Rattle.proof.specs.StateHeld.{StateLaid, StateHeld}
-use Rattle.proof.proofs.Applying.{but}
+use Rattle.prover.specs.Parts.{Blank}
 
 pub few_records : (bytes : List ℕ) → length bytes / record_length ≤ most_records → length (decode bytes) ≤ most_records
 few_records bytes h = omega (arith, length_decode bytes, h)
@@ -45,32 +47,32 @@ module _ (rs : List Rec) where
     unfolding begun
     begun_since = since_all rs (begun rs).nodes (begun_treed rs some (omega (arith, begun_few))) (begun_unmarked rs)
 
-    -- the counts then
-    abbrev counts : (count len waiting : ℕ) → Progress
-    counts count len waiting = record { formulas = count; nodes = len; worlds = 0; necessities = 0; waiting = waiting; steps = 0; proved = false }
-
-    begun_laid : (F : Setting) {count len waiting : ℕ} {A : Lent} → Recorded rs count A.formulas → Held (rooted (branch_nodes rs)) len A.nodes → Listed (begun rs).waiting waiting A.waiting →
-        Listed (map (get_node_priority F rs (rooted (branch_nodes rs))) (begun rs).waiting) waiting A.classes → Drawn empty_graph 0 A.edges → Stacked [] 0 A →
-        StateLaid F (begun rs) (counts count len waiting) A
+    begun_laid : (F : Setting) {x : Rust.State} → HasRecords rs x.formulas → HasNodes (rooted (branch_nodes rs)) x.tableau.tree → HasList (begun rs).waiting x.tableau.waiting →
+        HasList (map (get_node_priority F rs (rooted (branch_nodes rs))) (begun rs).waiting) x.classes → HasGraph empty_graph x.tableau.graph → HasStack [] x.tableau.necessities → x.steps ≡ 0 → x.proved ≡ false →
+        StateLaid F (begun rs) x
     unfolding begun
-    begun_laid F r h w c g n =
+    begun_laid F r h w c g n e p =
         let k = held_ok h (held_fits h (omega (arith, begun_few))) in
-        record { formulas = r; room = omega (arith, begun_few); count = k.0; nodes = k.1; graph = g; necessities = n; waiting = w; classes = c; proved = refl; steps = refl }
+        record { formulas = r; room = omega (arith, begun_few); count = k.0; nodes = k.1; graph = g; necessities = n; waiting = w; classes = c; proved = p; steps = e }
 
-    -- records read, nodes linked, root queued, contradictions checked: the start
-    pub started : (F : Setting) {count len waiting : ℕ} {p : Progress} {ta : List ℕ} {B : Lent} → length rs ≤ most_records → Drawn empty_graph 0 B.edges → Stacked [] 0 B → Recorded rs count B.formulas →
-        (count ≤ most_formulas → Held (rooted (branch_nodes rs)) len ta) →
-        (length (branch_nodes rs) ≡ len → len ≤ most_identifiers → ta ≡ lay (rooted (branch_nodes rs)) → Listed (begun rs).waiting waiting B.waiting) →
-        ((ns : List Node) (q : List ℕ) → count ≤ most_formulas → Lays ns ta → Listed q waiting B.waiting → waiting ≤ most_identifiers → Listed (map (get_node_priority F rs ns) q) waiting B.classes) →
-        (count ≤ most_formulas → CheckedAt (begun rs).formulas (begun rs).nodes 0 → StateLaid F (begun rs) (counts count len waiting) (but B B.formulas ta B.waiting B.classes) →
-        StateHeld F (check_for_contradictions F (begun rs)) p B) →
-        StateHeld F (start F rs) p B
-    unfolding start
-    started F small g n r tree queue classify check =
-        let fits = recorded_fits r (omega (arith, small)) in
-        let h = tree fits in
-        let low = held_fits h (omega (arith, begun_few)) in
-        let k = held_ok h low in
-        let w = queue (sym (length_rooted (branch_nodes rs)) ∙ k.0) low k.1 in
-        let short : length (begun rs).waiting ≤ most_identifiers = omega (arith, ap (length {A = ℕ}) (begun_waiting rs (omega (arith, length_branch rs, few))), length-reverse (below (length (branch_nodes rs))), length_from (length (branch_nodes rs)) 0, length_branch rs, few) in
-        check fits begun_since (begun_laid F r h w (classify (rooted (branch_nodes rs)) (begun rs).waiting fits (held_lays h low) w (listed_fits w short)) g n)
+    -- the struct once its records are read, its nodes linked, its root queued
+    module _ (x : Rust.State) (f : Formulas) (t : ProofTree) (w c : Numbers) where
+      abbrev then_state : Rust.State
+      then_state = record { formulas = f; tableau = record { tree = t; graph = x.tableau.graph; necessities = x.tableau.necessities; waiting = w }; classes = c; steps = x.steps; proved = x.proved }
+
+      -- records read, nodes linked, root queued, contradictions checked: the start
+      pub started : (F : Setting) {y : Rust.State} → length rs ≤ most_records → Blank x → HasRecords rs f →
+          (f.count ≤ most_formulas → HasNodes (rooted (branch_nodes rs)) t) →
+          (length (branch_nodes rs) ≡ t.len → t.len ≤ most_identifiers → t.cells ≡ lay (rooted (branch_nodes rs)) → HasList (begun rs).waiting w) →
+          ((ns : List Node) (q : List ℕ) → f.count ≤ most_formulas → Laid ns t → HasList q w → w.len ≤ most_identifiers → HasList (map (get_node_priority F rs ns) q) c) →
+          (f.count ≤ most_formulas → CheckedAt (begun rs).formulas (begun rs).nodes 0 → StateLaid F (begun rs) then_state → StateHeld F (check_for_contradictions F (begun rs)) y) →
+          StateHeld F (start F rs) y
+      unfolding start
+      started F small blank r tree queue classify check =
+          let fits = recorded_fits r (omega (arith, small)) in
+          let h = tree fits in
+          let low = held_fits h (omega (arith, begun_few)) in
+          let k = held_ok h low in
+          let w = queue (sym (length_rooted (branch_nodes rs)) ∙ k.0) low k.1 in
+          let short : length (begun rs).waiting ≤ most_identifiers = omega (arith, ap (length {A = ℕ}) (begun_waiting rs (omega (arith, length_branch rs, few))), length-reverse (below (length (branch_nodes rs))), length_from (length (branch_nodes rs)) 0, length_branch rs, few) in
+          check fits begun_since (begun_laid F r h w (classify (rooted (branch_nodes rs)) (begun rs).waiting fits (held_lays h low) w (listed_fits w short)) blank.graph blank.necessities blank.steps blank.proved)

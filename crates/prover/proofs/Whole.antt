@@ -8,7 +8,6 @@ use Prim.Native.Nat.{ℕ, ◌≤◌, ◌<◌, ◌/◌}
 use native.Mathlib.Omega.{arith}
 use lib.ListN.{length}
 use Rattle.definition.specs.Limits.{record_length, most_records, most_marked, world_limit}
-use Rattle.limits.specs.Lent.{Lent}
 use Rattle.definition.specs.RefusalNumbers.{too_many_identifiers}
 use Rattle.definition.specs.Lists.{Each, empty}
 use Rattle.definition.specs.Records.{Rec, Unknown, nobody, made, decode, rec_at, marks}
@@ -31,7 +30,7 @@ use Rattle.definition.specs.Reached.{Reached}
 use Rattle.definition.proofs.Engine.Reached.{reached_start}
 use Rattle.definition.proofs.Soundness.Theorem.{demand_3}
 use Rattle.definition.proofs.Completeness.Whole.{complete, exact}
-use Rattle.logic.specs.declared.Progress.{Progress}
+use Rattle.proof.specs.declared.State as Rust
 use Rattle.proof.specs.StateHeld.{StateHeld}
 use Rattle.prover.specs.Contract.{Contract}
 use Rattle.prover.specs.Parts.{Ends}
@@ -112,11 +111,11 @@ module _ (branch : List ℕ) (flags : ℕ) (lent : Trays) where
         low h (inr d) = omega (arith, h, d)
 
     -- begun, run to its end, laid out
-    pub runs : {r : Answer} {left : Trays} {G : Setting} {p q : Progress} {A B : Lent} → refused branch flags (lengths_of lent) ≡ none →
+    pub runs : {r : Answer} {left : Trays} {G : Setting} {x y : Rust.State} → refused branch flags (lengths_of lent) ≡ none →
         G ≡ F →
-        (length branch / record_length ≤ most_records → empty (marks rs) ≡ false → length (marks rs) ≤ most_marked → StateHeld G (start G rs) p A) →
-        (Reached G (start G rs) → StateHeld G (start G rs) p A → StateHeld G (run enough_steps G (start G rs)) q B) →
-        (StateHeld F (final F rs) q B → Ends (final F rs) → LongEnough (lengths_of lent) → (r ≡ answer_of F (outcome_of_run (final F rs))) × (left ≡ trays_after (outcome_of_run (final F rs)) lent)) →
+        (length branch / record_length ≤ most_records → empty (marks rs) ≡ false → length (marks rs) ≤ most_marked → StateHeld G (start G rs) x) →
+        (Reached G (start G rs) → StateHeld G (start G rs) x → StateHeld G (run enough_steps G (start G rs)) y) →
+        (StateHeld F (final F rs) y → Ends (final F rs) → LongEnough (lengths_of lent) → (r ≡ answer_of F (outcome_of_run (final F rs))) × (left ≡ trays_after (outcome_of_run (final F rs)) lent)) →
         Contract branch flags lent r left
     unfolding final
     runs e l begin go finish =

@@ -4,143 +4,107 @@
 ghost use Rattle.std.specs.Prelude.{◌≡◌, false, List, [], ℕ, ◌≤◌, ◌/◌, length};
 ghost use Rattle.std.proofs.Math.Option.{none};
 ghost use Rattle.definition.specs.Limits.{record_length, most_records, most_marked};
-ghost use Rattle.arrays.specs.Listed.{Listed};
 ghost use Rattle.definition.specs.Lists.{empty};
 ghost use Rattle.definition.specs.Records.{decode, marks};
 ghost use Rattle.definition.specs.Setting as D;
-ghost use Rattle.definition.specs.Graph.{empty_graph};
-ghost use Rattle.definition.specs.Run.{State, start};
+ghost use Rattle.definition.specs.Run as R;
+ghost use Rattle.definition.specs.Run.{start};
 ghost use Rattle.definition.specs.Checks.{LongEnough, refused};
 ghost use Rattle.definition.specs.Call.{outcome_of_run, late, answer_of, trays_after, lengths_of};
-ghost use Rattle.limits.specs.Lent.{Lent};
-ghost use Rattle.formula.specs.Recorded.{Recorded};
-ghost use Rattle.graph.specs.Drawn.{Drawn};
 ghost use Rattle.setting.specs.Asked.{asked};
-ghost use Rattle.tree.specs.Lay.{Held};
-ghost use Rattle.necessities.specs.Stack.{Stack};
 ghost use Rattle.proof.specs.StateHeld.{StateLaid, StateHeld};
 ghost use Rattle.prover.specs.Contract.{trays, Contract};
 ghost use Rattle.prover.specs.Said.{said};
-ghost use Rattle.prover.specs.Parts.{Ends};
+ghost use Rattle.prover.specs.Parts.{Blank, Ends};
 
+use arrays::Numbers;
 use branch::{begin_queue, begin_tree, read_records};
-use checks::{Checked, check};
-use limits::{
-    Classes, EDGE_CELLS, Edges, FORMULA_CELLS, FORMULA_TRAY_LENGTH, Formulas, LEAF_WORDS,
-    MOST_IDENTIFIERS, NECESSITY_CELLS, NODE_CELLS, NODE_TRAY_LENGTH, Nodes, TOO_MANY_IDENTIFIERS,
-    WORLD_LIMIT, Waiting,
-};
-use logic::Progress;
+use checks::check;
+use formula::Formulas;
+use graph::Graph;
+use limits::{FORMULA_TRAY_LENGTH, MOST_IDENTIFIERS, NODE_TRAY_LENGTH, WORLD_LIMIT};
+use logic::Tableau;
+use necessities::Necessities;
+use proof::State;
 use queue::classify;
-use setting::{Setting, setting_of};
+use refusal::{Reason, Refusal};
+use setting::Setting;
 use trays::{clear, clear_edges, write_edges, write_formulas, write_nodes};
-use tree::NO_NUMBER;
+use tree::ProofTree;
 
-// A verdict, or a refusal by the table's number with its record number.
-#[derive(Clone, Copy)]
-pub enum Answer {
-    Refusal {
-        number: u16,
-        place: u16,
-    },
-    Verdict {
-        proved: bool,
-        late: bool,
-        identifiers: u16,
-        formulas: u16,
-        worlds: u16,
-        steps: u16,
-    },
+// What a run comes to: whether it proved, whether it was stopped with a node waiting, and its counts.
+#[derive(Clone, Copy, Debug, PartialEq, Eq)]
+pub struct Verdict {
+    pub proved: bool,
+    pub late: bool,
+    pub identifiers: u16,
+    pub formulas: u16,
+    pub worlds: u16,
+    pub steps: u16,
 }
 
-// The state before any step.
-fn begin(
-    branch: &[u8],
-    setting: Setting,
-    formulas: &mut Formulas,
-    nodes: &mut Nodes,
-    waiting: &mut Waiting,
-    classes: &mut Classes,
-) -> Progress
-    ensures { (edges necessities leaves : List ℕ) → length branch.now / record_length ≤ most_records → empty (marks (decode branch.now)) ≡ false → length (marks (decode branch.now)) ≤ most_marked
-        → Recorded [] 0 formulas.old → Held [] 0 nodes.old → Listed [] 0 waiting.old → Listed [] 0 classes.old → Drawn empty_graph 0 edges → Stack [] 0 necessities leaves
-        → StateHeld (asked setting) (start (asked setting) (decode branch.now)) result (record { formulas = formulas.new; nodes = nodes.new; edges = edges; necessities = necessities; leaves = leaves; waiting = waiting.new; classes = classes.new }) }
+// The state before any step, where nothing is in it yet.
+fn begin(branch: &[u8], setting: Setting, state: &mut State)
+    ensures { length branch.now / record_length ≤ most_records → empty (marks (decode branch.now)) ≡ false → length (marks (decode branch.now)) ≤ most_marked
+        → Blank state.old → StateHeld (asked setting) (start (asked setting) (decode branch.now)) state.new }
 {
-    let count = read_records(branch, formulas);
-    let len = begin_tree(formulas, count, nodes);
-    let queued = begin_queue(nodes, len, waiting);
-    classify(formulas, count, nodes, waiting, queued, classes, 0);
-    let p = Progress {
-        formulas: count,
-        nodes: len,
-        worlds: 0,
-        necessities: 0,
-        waiting: queued,
-        steps: 0,
-        proved: false,
-    };
-    proof::begin(setting, p, formulas, nodes)
+    read_records(branch, &mut state.formulas);
+    begin_tree(&state.formulas, &mut state.tableau.tree);
+    begin_queue(&state.tableau.tree, &mut state.tableau.waiting);
+    classify(
+        &state.formulas,
+        &state.tableau.tree,
+        &state.tableau.waiting,
+        &mut state.classes,
+    );
+    state.begin(setting);
 }
 
 // A count as the answer has it: none is above 65,535.
 fn narrow(n: usize) -> u16
     ensures { n ≤ 65535 → result ≡ n }
 {
-    if 65535 < n {
-        return 65535;
-    }
-    n as u16
+    u16::try_from(n).unwrap_or(u16::MAX)
 }
 
 // Unfinished: the world limit is reached, proved is false and a node still waits.
-fn is_late(p: Progress) -> bool
-    ensures { (F : D.Setting) (s : State) (A : Lent) → StateLaid F s p A → result ≡ late F s }
+#[tactic(auto, using(crate::proofs::Ending::few_timely, crate::proofs::Ending::proved_timely, crate::proofs::Ending::waiting_late))]
+fn is_late(state: &State) -> bool
+    ensures { (F : D.Setting) (s : R.State) → StateLaid F s state.now → result ≡ late F s }
 {
-    if p.worlds < WORLD_LIMIT {
-        return false;
-    }
-    if p.proved {
-        return false;
-    }
-    p.waiting != 0
+    WORLD_LIMIT <= state.tableau.graph.worlds && !state.proved && state.tableau.waiting.len != 0
 }
 
 // The answer of a run that has stopped, and its trays.
 fn finish(
-    p: Progress,
-    formulas: &Formulas,
-    nodes: &Nodes,
-    edges: &Edges,
+    state: &State,
     node_tray: &mut [u8],
     formula_tray: &mut [u8],
     edge_tray: &mut [u32],
-) -> Answer
-    ensures { (F : D.Setting) (s : State) (necessities leaves waiting classes : List ℕ)
-        → StateHeld F s p (record { formulas = formulas.now; nodes = nodes.now; edges = edges.now; necessities = necessities; leaves = leaves; waiting = waiting; classes = classes }) → Ends s
+) -> Result<Verdict, Refusal>
+    ensures { (F : D.Setting) (s : R.State) → StateHeld F s state.now → Ends s
         → LongEnough (lengths_of (trays node_tray.old formula_tray.old edge_tray.old))
         → (said result ≡ answer_of F (outcome_of_run s))
         × (trays node_tray.new formula_tray.new edge_tray.new ≡ trays_after (outcome_of_run s) (trays node_tray.old formula_tray.old edge_tray.old)) }
 {
-    if MOST_IDENTIFIERS < p.nodes {
+    let tree = &state.tableau.tree;
+    if MOST_IDENTIFIERS < tree.len {
         clear(node_tray, NODE_TRAY_LENGTH);
         clear(formula_tray, FORMULA_TRAY_LENGTH);
         clear_edges(edge_tray);
-        return Answer::Refusal {
-            number: TOO_MANY_IDENTIFIERS,
-            place: 0,
-        };
+        return Err(Reason::TooManyIdentifiers.at(0));
     }
-    write_nodes(node_tray, nodes, p.nodes);
-    write_formulas(formula_tray, formulas, p.formulas);
-    write_edges(edge_tray, edges, p.worlds);
-    Answer::Verdict {
-        proved: p.proved,
-        late: is_late(p),
-        identifiers: narrow(p.nodes),
-        formulas: narrow(p.formulas),
-        worlds: narrow(p.worlds),
-        steps: narrow(p.steps),
-    }
+    write_nodes(node_tray, tree);
+    write_formulas(formula_tray, &state.formulas);
+    write_edges(edge_tray, &state.tableau.graph);
+    Ok(Verdict {
+        proved: state.proved,
+        late: is_late(state),
+        identifiers: narrow(tree.len),
+        formulas: narrow(state.formulas.count),
+        worlds: narrow(state.tableau.graph.worlds),
+        steps: narrow(state.steps),
+    })
 }
 
 // The run of an accepted branch.
@@ -150,46 +114,26 @@ fn run(
     node_tray: &mut [u8],
     formula_tray: &mut [u8],
     edge_tray: &mut [u32],
-) -> Answer
+) -> Result<Verdict, Refusal>
     ensures { refused branch.now flags (lengths_of (trays node_tray.old formula_tray.old edge_tray.old)) ≡ none
         → Contract branch.now flags (trays node_tray.old formula_tray.old edge_tray.old) (said result) (trays node_tray.new formula_tray.new edge_tray.new) }
 {
-    let mut formulas = [0u16; FORMULA_CELLS];
-    let mut nodes = [NO_NUMBER; NODE_CELLS];
-    let mut edges = [0u8; EDGE_CELLS];
-    let mut necessities = [0u32; NECESSITY_CELLS];
-    let mut leaves = [0u32; LEAF_WORDS];
-    let mut waiting = [0u16; MOST_IDENTIFIERS];
-    let mut classes = [0u16; MOST_IDENTIFIERS];
-    let setting = setting_of(flags);
-    let begun = begin(
-        branch,
-        setting,
-        &mut formulas,
-        &mut nodes,
-        &mut waiting,
-        &mut classes,
-    );
-    let p = proof::prove(
-        setting,
-        begun,
-        &mut formulas,
-        &mut nodes,
-        &mut edges,
-        &mut necessities,
-        &mut leaves,
-        &mut waiting,
-        &mut classes,
-    );
-    finish(
-        p,
-        &formulas,
-        &nodes,
-        &edges,
-        node_tray,
-        formula_tray,
-        edge_tray,
-    )
+    let mut state = State {
+        formulas: Formulas::new(),
+        tableau: Tableau {
+            tree: ProofTree::new(),
+            graph: Graph::new(),
+            necessities: Necessities::new(),
+            waiting: Numbers::new(),
+        },
+        classes: Numbers::new(),
+        steps: 0,
+        proved: false,
+    };
+    let setting = Setting::from(flags);
+    begin(branch, setting, &mut state);
+    state.prove(setting);
+    finish(&state, node_tray, formula_tray, edge_tray)
 }
 
 // The call. Nothing is written before the run has ended.
@@ -199,17 +143,15 @@ pub fn prove(
     node_tray: &mut [u8],
     formula_tray: &mut [u8],
     edge_tray: &mut [u32],
-) -> Answer
+) -> Result<Verdict, Refusal>
     ensures { Contract branch.now flags (trays node_tray.old formula_tray.old edge_tray.old) (said result) (trays node_tray.new formula_tray.new edge_tray.new) }
 {
-    match check(
+    check(
         branch,
         flags,
         node_tray.len(),
         formula_tray.len(),
         edge_tray.len(),
-    ) {
-        Checked::Refused { number, place } => Answer::Refusal { number, place },
-        Checked::Accepted => run(branch, flags, node_tray, formula_tray, edge_tray),
-    }
+    )?;
+    run(branch, flags, node_tray, formula_tray, edge_tray)
 }

@@ -8,12 +8,11 @@ use native.Mathlib.Numerals.{add-one}
 use native.Mathlib.Omega.{arith}
 use borrow.Author.Tests.{lt-ltb, le-ltb, eq-eqb, ne_eqb}
 use lib.Dec.{eqb}
-use lib.ListN.{length, length-map, get_or, take, drop, drop_of_length-le}
-use lib.Seq.{take-suc, take_all, take_at, length-take-le, drop-cons}
+use lib.ListN.{length, length-append, length-map, get_or, take, drop, drop_of_length-le}
+use lib.Seq.{take-suc, take_all, take_at, drop-cons}
 use Rattle.definition.specs.Limits.{most_identifiers}
 use Rattle.arrays.specs.Data.{without}
-use Rattle.arrays.specs.Listed.{Listed}
-use Rattle.arrays.proofs.Laws.{length_without}
+use Rattle.arrays.specs.Listed.{Listed, HasList}
 use Rattle.arrays.proofs.Listed.{listed_count, listed_fits}
 use Rattle.definition.specs.Lists.{or_else}
 use Rattle.definition.specs.Records.{Rec}
@@ -22,8 +21,9 @@ use Rattle.definition.specs.Setting.{Setting}
 use Rattle.definition.specs.Queue as D
 use Rattle.definition.proofs.Basics.Lists.{from_get}
 use Rattle.definition.proofs.Basics.Identifiers.{length_from}
-use Rattle.queue.specs.declared.Popped.{Popped}
-use Rattle.queue.specs.declared.Popped.TheVariants as P
+use Rattle.std.specs.Prelude as Rust
+use Rattle.arrays.specs.declared.Numbers.{Numbers}
+use Rattle.tree.specs.declared.ProofTreeNodeID.{ProofTreeNodeID}
 use Rattle.queue.specs.Taking.{taken_at, answer, afterwards}
 
 -- ---- a position
@@ -121,9 +121,9 @@ module _ (F : Setting) (rs : List Rec) (ns : List Node) (q : List ℕ) {n : ℕ}
   search_end k z e = sym e ∙ class_end F rs ns q k z ∙ sym (taken_out q n (omega (arith, many)))
 
   -- v is read at position i
-  module _ (k i v : ℕ) (h : i < n) (e : from_place F rs ns q k i ≡ D.pop F rs ns q) (read : (l : List ℕ) (m : ℕ) → Listed l m a → m ≤ most_identifiers → v ≡ get_or l i 0) where
+  module _ (k i v : ℕ) (h : i < n) (e : from_place F rs ns q k i ≡ D.pop F rs ns q) (read : v ≡ get_or (map (D.get_node_priority F rs ns) q) i 0) where
     seen : v ≡ D.get_node_priority F rs ns (get_or q i 0)
-    seen = read _ n l g ∙ get_map (D.get_node_priority F rs ns) q i (omega (arith, many, h))
+    seen = read ∙ get_map (D.get_node_priority F rs ns) q i (omega (arith, many, h))
 
     pub search_hit : v ≡ k → D.pop F rs ns q ≡ taken_at q i
     search_hit z = sym e ∙ place_hit F rs ns q k i (omega (arith, many)) (sym seen ∙ z)
@@ -146,50 +146,46 @@ map_append : (f : ℕ → ℕ) (xs ys : List ℕ) → map f (xs ++ ys) ≡ map f
 map_append f [] ys = refl
 map_append f (x ∷ xs) ys = ap (λ (l : List ℕ). f x ∷ l) (map_append f xs ys)
 
-pub classing_start : (f : ℕ → ℕ) (q more : List ℕ) (m : ℕ) {a : List ℕ} → length q ≡ m → Listed (map f q) m a → Listed (map f (take m (q ++ more))) m a
-classing_start f q more m {a} e l = subst (λ (v : List ℕ). Listed (map f v) m a) (sym (take_at q more m e)) l
+pub classing_start : (f : ℕ → ℕ) (q more : List ℕ) {m : ℕ} {a : List ℕ} → length (q ++ more) ≤ most_identifiers → Listed (map f q) m a → Listed (map f (take m (q ++ more))) m a
+classing_start f q more {m} {a} h l =
+    let e : length (map f q) ≡ length q = length-map q f in
+    let low : length q ≤ most_identifiers = omega (arith, length-append q more, h) in
+    let z : length q ≡ m = sym e ∙ listed_count l (listed_fits l (omega (arith, e, low))) in
+    subst (λ (v : List ℕ). Listed (map f v) m a) (sym (take_at q more m z)) l
 
-pub classing_next : (f : ℕ → ℕ) (q : List ℕ) (i x v : ℕ) {a b : List ℕ} {n : ℕ} → i < length q → i < most_identifiers → Listed (map f (take i q)) i a → x ≡ get_or q i 0 → v ≡ f x →
-    ((l : List ℕ) → Listed l i a → Listed (l ++ (v ∷ [])) n b) → Listed (map f (take (i + 1) q)) (i + 1) b
-classing_next f q i x v {a} {b} {n} h low l e z put =
-    let got = put (map f (take i q)) l in
-    let s : map f (take i q) ++ (v ∷ []) ≡ map f (take (i + 1) q) =
-    sym (ap (map f) (ap (λ (j : ℕ). take j q) (add-one i) ∙ take-suc q i 0 h) ∙ map_append f (take i q) (get_or q i 0 ∷ []) ∙ ap (λ (w : ℕ). map f (take i q) ++ (w ∷ [])) (sym (z ∙ ap f e))) in
-    let size : length (map f (take (i + 1) q)) ≡ i + 1 = length-map (take (i + 1) q) f ∙ length-take-le (i + 1) q (omega arith) in
-    counted (subst (λ (w : List ℕ). Listed w n b) s got) size
-  where
-    counted : Listed (map f (take (i + 1) q)) n b → length (map f (take (i + 1) q)) ≡ i + 1 → Listed (map f (take (i + 1) q)) (i + 1) b
-    counted k size = subst (λ (c : ℕ). Listed (map f (take (i + 1) q)) c b) (sym (listed_count k (listed_fits k (omega arith))) ∙ size) k
+pub classing_next : (f : ℕ → ℕ) (q : List ℕ) (i x v : ℕ) {n : ℕ} {b : List ℕ} → i < length q → x ≡ get_or q i 0 → v ≡ f x →
+    Listed (map f (take i q) ++ (v ∷ [])) n b → Listed (map f (take (i + 1) q)) n b
+classing_next f q i x v {n} {b} h e z =
+    subst (λ (w : List ℕ). Listed w n b)
+    (sym (ap (map f) (ap (λ (j : ℕ). take j q) (add-one i) ∙ take-suc q i 0 h) ∙ map_append f (take i q) (get_or q i 0 ∷ []) ∙ ap (λ (w : ℕ). map f (take i q) ++ (w ∷ [])) (sym (z ∙ ap f e))))
 
-pub classing_end : (f : ℕ → ℕ) (q : List ℕ) (i n : ℕ) {a : List ℕ} → length q ≡ n → n ≤ i → i ≤ n → Listed (map f (take i q)) i a → Listed (map f q) n a
-classing_end f q i n {a} e h k l =
-    let z : i ≡ n = omega arith in
-    subst (λ (c : ℕ). Listed (map f q) c a) z (subst (λ (v : List ℕ). Listed (map f v) i a) (take_all i q (omega arith)) l)
+pub classing_end : (f : ℕ → ℕ) (q : List ℕ) (i : ℕ) {n : ℕ} {a : List ℕ} → length q ≤ i → Listed (map f (take i q)) n a → Listed (map f q) n a
+classing_end f q i {n} {a} h = subst (λ (v : List ℕ). Listed (map f v) n a) (take_all i q h)
 
 -- ---- the answer of `pop`
--- what `pop` promises of its answer r and of the arrays w and c at exit
-abbrev pub Answered : (ℕ → ℕ) → List ℕ → Option D.Popped → Popped → List ℕ → List ℕ → Type 0
-Answered f q o r w c = (r ≡ answer o) × Listed (afterwards q o) (length (afterwards q o)) w × Listed (map f (afterwards q o)) (length (afterwards q o)) c
+-- what `pop` promises of its answer r and of the lists w and c at exit
+abbrev pub Answered : (ℕ → ℕ) → List ℕ → Option D.Popped → Rust.Option ProofTreeNodeID → Numbers → Numbers → Type 0
+Answered f q o r w c = (r ≡ answer o) × HasList (afterwards q o) w × HasList (map f (afterwards q o)) c
 
 without_map : (f : ℕ → ℕ) (q : List ℕ) (i : ℕ) → without (map f q) i ≡ map f (without q i)
 unfolding without
 without_map f q i = sym (map_append f (take i q) (drop (suc i) q) ∙ rw (take_map f i q, drop_map f (suc i) q))
 
-module _ (f : ℕ → ℕ) (q : List ℕ) {n : ℕ} {a b : List ℕ} (p : Listed q n a) (k : Listed (map f q) n b) (g : n ≤ most_identifiers) (o : Option D.Popped) (at : ℕ) (e : o ≡ taken_at q at) where
-  pub pop_none : n ≤ at → Answered f q o P.None a b
-  unfolding answer afterwards
-  pop_none h =
-      let z : o ≡ none = e ∙ taken_out q at (omega (arith, listed_count p g)) in
-      rw (z, listed_count p g) (refl, p, k)
+module _ (f : ℕ → ℕ) (q : List ℕ) (w c : Numbers) (p : HasList q w) (k : HasList (map f q) c) (g : w.len ≤ most_identifiers) where
+  pub as_many : c.len ≡ w.len
+  as_many =
+      let e : length (map f q) ≡ w.len = length-map q f ∙ listed_count p g in
+      sym (listed_count k (listed_fits k (omega (arith, e, g)))) ∙ e
 
-  pub pop_some : (x m m' : ℕ) (w c : List ℕ) → at < n → x ≡ get_or q at 0 → Listed (without q at) m w → Listed (without (map f q) at) m' c → Answered f q o (P.Node (record { 0 = x }) m) w c
-  unfolding answer afterwards
-  pop_some x m m' w c h y l r =
-      let s : length q ≡ n = listed_count p g in
-      let t : length (without q at) + 1 ≡ length q = length_without q at (omega arith) in
-      let z : o ≡ some (record { node = get_or q at 0; others = without q at }) = e ∙ taken_in q at (omega arith) in
-      let d : length (without q at) ≡ m = listed_count l (listed_fits l (omega arith)) in
-      let r' : Listed (map f (without q at)) m' c = subst (λ (v : List ℕ). Listed v m' c) (without_map f q at) r in
-      let size : length (map f (without q at)) ≡ length (without q at) = length-map (without q at) f in
-      let d' : m' ≡ m = sym (listed_count r' (listed_fits r' (omega arith))) ∙ size ∙ d in
-      rw (z, d, y) (refl, l, subst (λ (v : ℕ). Listed (map f (without q at)) v c) d' r')
+  module _ (o : Option D.Popped) (at : ℕ) (e : o ≡ taken_at q at) where
+    pub pop_none : w.len ≤ at → Answered f q o Rust.None w c
+    unfolding answer afterwards
+    pop_none h =
+        let z : o ≡ none = e ∙ taken_out q at (omega (arith, listed_count p g)) in
+        rw z (refl, p, k)
+
+    pub pop_some : (x : ℕ) (w' c' : Numbers) → at < w.len → x ≡ get_or q at 0 → HasList (without q at) w' → HasList (without (map f q) at) c' → Answered f q o (Rust.Some (record { 0 = x })) w' c'
+    unfolding answer afterwards
+    pop_some x w' c' h y l r =
+        let z : o ≡ some (record { node = get_or q at 0; others = without q at }) = e ∙ taken_in q at (omega (arith, listed_count p g)) in
+        rw (z, y) (refl, l, subst (λ (v : List ℕ). HasList v c') (without_map f q at) r)

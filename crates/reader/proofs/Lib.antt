@@ -1,4 +1,4 @@
-pub mod Levels
 pub mod Placing
+pub mod Levels
 pub mod Sofar
 pub mod Whole

@@ -8,19 +8,26 @@ use Rattle.definition.specs.Limits.{most_identifiers}
 use Rattle.definition.specs.Tree.{Node, new_node, node_at}
 use Rattle.definition.specs.Subtree.{Subtree, with_middle, with_left_right, flat, turned, numbered}
 use Rattle.tree.specs.Chain.{chain_of, empty_chain}
-use Rattle.tree.specs.Lay.{Lays, Held, held, too_many}
+use Rattle.tree.specs.Lay.{Lays, Held, HasNodes, held, too_many}
+use Rattle.tree.specs.declared.Chain.{Chain}
+use Rattle.tree.specs.declared.ProofTree.{ProofTree}
+use Rattle.subtree.specs.declared.ProofSubtree.{ProofSubtree}
+use Rattle.subtree.specs.Subtree.{subtree_of}
 use Rattle.tree.specs.Sequence.{id_at}
 use Rattle.tree.proofs.Sequence.{id_fits}
 use Rattle.tree.proofs.Nodes.{held_ok, held_fits, held_as}
-use Rattle.rules.specs.declared.AppliedHere.{AppliedHere}
 use Rattle.rules.specs.Here.{with_nodes, in_middle, in_left_right, Here}
 
 -- what a function that makes the nodes xs does
-abbrev pub Adds : ℕ → List ℕ → List Node → ℕ → List ℕ → Type 0
-Adds n a xs m b = (ns : List Node) → Held ns n a → Held (ns ++ xs) m b
+abbrev pub Adds : ProofTree → List Node → ProofTree → Type 0
+Adds t xs u = (ns : List Node) → HasNodes ns t → HasNodes (ns ++ xs) u
 
-pub adds_both : {n m k : ℕ} {a b c : List ℕ} (xs ys : List Node) → Adds n a xs m b → Adds m b ys k c → Adds n a (xs ++ ys) k c
-adds_both {n} {m} {k} {a} {b} {c} xs ys f g ns h = subst (λ (l : List Node). Held l k c) (append_assoc ns xs ys) (g (ns ++ xs) (f ns h))
+pub adds_both : (t u v : ProofTree) (xs ys : List Node) → Adds t xs u → Adds u ys v → Adds t (xs ++ ys) v
+adds_both t u v xs ys f g ns h = subst (λ (l : List Node). HasNodes l v) (append_assoc ns xs ys) (g (ns ++ xs) (f ns h))
+
+-- a subtree is its three chains
+pub by_chains : (s : ProofSubtree) {l m r : Chain} → s.left ≡ l → s.middle ≡ m → s.right ≡ r → s ≡ (record { left = l; middle = m; right = r })
+by_chains s a b c = rw (← a, ← b, ← c) refl
 
 -- ---- the world
 over : (ns : List Node) {m : ℕ} {b : List ℕ} (xs ys : List Node) → most_identifiers < length ns → Held (ns ++ xs) m b → Held (ns ++ ys) m b
@@ -28,10 +35,10 @@ over ns xs ys h (held g e q) = absurd (omega (arith, length-append ns xs))
 over ns xs ys h (too_many g e) = too_many g (omega (arith, length-append ns ys))
 
 -- the world is read off the nodes; where they were too many, it does not matter
-pub here_world : {ns : List Node} {n : ℕ} {a b : List ℕ} {r : AppliedHere} (x v : ℕ) (fs : Subtree) → Held ns n a →
-    ((ms : List Node) → Lays ms a → v ≡ (node_at ms x).world) → Here ns x v fs r b → Here ns x (node_at ns x).world fs r b
-here_world {ns} {n} {a} {b} {r} x v fs (held h e q) f p = subst (λ (w : ℕ). Here ns x w fs r b) (f ns (record { fits = omega arith; laid = q })) p
-here_world {ns} {n} {a} {b} {r} x v fs (too_many h e) f p =
+pub here_world : {ns : List Node} {n : ℕ} {a : List ℕ} {r : ProofSubtree} {t : ProofTree} (x v : ℕ) (fs : Subtree) → Held ns n a →
+    ((ms : List Node) → Lays ms a → v ≡ (node_at ms x).world) → Here ns x v fs r t → Here ns x (node_at ns x).world fs r t
+here_world {ns} {n} {a} {r} {t} x v fs (held h e q) f p = subst (λ (w : ℕ). Here ns x w fs r t) (f ns (record { fits = omega arith; laid = q })) p
+here_world {ns} {n} {a} {r} {t} x v fs (too_many h e) f p =
     record {
       nodes = over ns _ _ e p.nodes;
       chains = λ g. absurd (long g);
@@ -42,55 +49,61 @@ here_world {ns} {n} {a} {b} {r} x v fs (too_many h e) f p =
     long g = omega (arith, g, e, length-append ns (map (λ (f : ℕ). new_node x f (node_at ns x).world) (flat (turned fs))))
 
 -- ---- the chains: their identifiers were drawn, so they are known where all nodes fit
-module _ {ns : List Node} {n : ℕ} {a : List ℕ} (x w : ℕ) (has : Held ns n a) where
+module _ {ns : List Node} (t : ProofTree) (x w : ℕ) (has : HasNodes ns t) where
   abbrev nodes : List ℕ → List Node
   nodes fs = map (λ f. new_node x f w) (reverse fs)
 
   nodes_length : (fs : List ℕ) → length (ns ++ nodes fs) ≡ length ns + length fs
   nodes_length fs = simp (length-append, length-map, length-reverse)
 
-  -- the first identifier of nodes that are made where n are issued
-  first : {s : ℕ} → s ≡ id_at n → length ns < most_identifiers → s ≡ length ns
-  first e h = let g = held_fits has (omega (arith, h)) in let k = (held_ok has g).0 in e ∙ id_fits n (omega (arith, h, k)) ∙ sym k
+  -- the first identifier of nodes that are made below those of t
+  first : {s : ℕ} → s ≡ id_at t.len → length ns < most_identifiers → s ≡ length ns
+  first e h = let g = held_fits has (omega (arith, h)) in let k = (held_ok has g).0 in e ∙ id_fits t.len (omega (arith, h, k)) ∙ sym k
 
-  pub here_none : (r : AppliedHere) → r ≡ (record { nodes = n; left = empty_chain; middle = empty_chain; right = empty_chain }) → Here ns x w (with_middle []) r a
-  unfolding flat turned numbered chain_of
-  here_none r e = rw e record { nodes = held_as (ns ++ []) (sym (append-nil ns)) has; chains = λ h. refl; below = λ h. ((omega arith, omega arith), omega arith) }
+  pub here_none : (r : ProofSubtree) → r ≡ (record { left = empty_chain; middle = empty_chain; right = empty_chain }) → Here ns x w (with_middle []) r t
+  unfolding flat turned numbered chain_of subtree_of
+  here_none r e =
+      rw e
+      record {
+        nodes = held_as (ns ++ []) (sym (append-nil ns)) has;
+        chains = λ h. refl;
+        below = λ h. record { on_left = omega arith; on_middle = omega arith; on_right = omega arith };
+      }
 
-  pub here_middle : {m s : ℕ} {b : List ℕ} {r : AppliedHere} (f : ℕ) (fs : List ℕ) → s ≡ id_at n → Adds n a (nodes (f ∷ fs)) m b → r ≡ in_middle m s (length (f ∷ fs)) → Here ns x w (with_middle (f ∷ fs)) r b
-  unfolding flat turned numbered chain_of
-  here_middle {m} {s} {b} f rest id adds e =
+  pub here_middle : {s : ℕ} {r : ProofSubtree} {u : ProofTree} (f : ℕ) (fs : List ℕ) → s ≡ id_at t.len → Adds t (nodes (f ∷ fs)) u → r ≡ in_middle s (length (f ∷ fs)) → Here ns x w (with_middle (f ∷ fs)) r u
+  unfolding flat turned numbered chain_of subtree_of
+  here_middle {s} f rest id adds e =
       let fs = f ∷ rest in
       let z : length ns + 0 ≡ length ns = omega arith in
       let same : nodes fs ≡ map (λ (f : ℕ). new_node x f w) (reverse fs ++ []) = ap (map (λ (f : ℕ). new_node x f w)) (sym (append-nil (reverse fs))) in
-      let t : length (ns ++ map (λ (f : ℕ). new_node x f w) (reverse fs ++ [])) ≡ length ns + length fs = ap (λ (l : List Node). length (ns ++ l)) (sym same) ∙ nodes_length fs in
-      let at : length (ns ++ map (λ (f : ℕ). new_node x f w) (reverse fs ++ [])) ≤ most_identifiers → s ≡ length ns = λ h. first id (omega (arith, h, t)) in
+      let k : length (ns ++ map (λ (f : ℕ). new_node x f w) (reverse fs ++ [])) ≡ length ns + length fs = ap (λ (l : List Node). length (ns ++ l)) (sym same) ∙ nodes_length fs in
+      let at : length (ns ++ map (λ (f : ℕ). new_node x f w) (reverse fs ++ [])) ≤ most_identifiers → s ≡ length ns = λ h. first id (omega (arith, h, k)) in
       rw e
       record {
         nodes = held_as (ns ++ map (λ (f : ℕ). new_node x f w) (reverse fs ++ [])) (ap (λ (l : List Node). ns ++ l) same) (adds ns has);
         chains = λ h. rw (at h, z) refl;
-        below = λ h. ((omega arith, omega (arith, t, at h)), omega arith);
+        below = λ h. record { on_left = omega arith; on_middle = omega (arith, k, at h); on_right = omega arith };
       }
 
-  pub here_split : {k m s s2 : ℕ} {b c : List ℕ} {r : AppliedHere} (f : ℕ) (fs gs : List ℕ) → length gs ≡ length (f ∷ fs) → s ≡ id_at n → s2 ≡ id_at k
-      → Adds n a (nodes (f ∷ fs)) k b → Adds k b (map (λ f. new_node x f w) (reverse gs)) m c
-      → r ≡ in_left_right m s s2 (length (f ∷ fs)) → Here ns x w (with_left_right (f ∷ fs) gs) r c
-  unfolding flat turned numbered chain_of
-  here_split {k} {m} {s} {s2} f rest gs same id id2 adds more e =
+  pub here_split : {s s2 : ℕ} {r : ProofSubtree} (u : ProofTree) {v : ProofTree} (f : ℕ) (fs gs : List ℕ) → length gs ≡ length (f ∷ fs) → s ≡ id_at t.len → s2 ≡ id_at u.len
+      → Adds t (nodes (f ∷ fs)) u → Adds u (map (λ f. new_node x f w) (reverse gs)) v
+      → r ≡ in_left_right s s2 (length (f ∷ fs)) → Here ns x w (with_left_right (f ∷ fs) gs) r v
+  unfolding flat turned numbered chain_of subtree_of
+  here_split {s} {s2} u {v} f rest gs same id id2 adds more e =
       let fs = f ∷ rest in
       let z : (length ns + length fs) + 0 ≡ length ns + length fs = omega arith in
       let both = map (λ (f : ℕ). new_node x f w) (reverse fs ++ reverse gs) in
       let parts : nodes fs ++ map (λ (f : ℕ). new_node x f w) (reverse gs) ≡ both = sym (map-append (λ (f : ℕ). new_node x f w) (reverse fs) (reverse gs)) in
-      let t : length (ns ++ both) ≡ length ns + (length fs + length gs) = simp (length-append, length-map, length-reverse) in
+      let k : length (ns ++ both) ≡ length ns + (length fs + length gs) = simp (length-append, length-map, length-reverse) in
       let half = nodes_length fs in
-      let left : length (ns ++ both) ≤ most_identifiers → s ≡ length ns = λ h. first id (omega (arith, h, t)) in
+      let left : length (ns ++ both) ≤ most_identifiers → s ≡ length ns = λ h. first id (omega (arith, h, k)) in
       let right : length (ns ++ both) ≤ most_identifiers → s2 ≡ length ns + length fs = λ h.
-      (let g = held_fits (adds ns has) (omega (arith, h, t, half)) in
+      (let g = held_fits (adds ns has) (omega (arith, h, k, half)) in
       let j = (held_ok (adds ns has) g).0 in
-      id2 ∙ id_fits k (omega (arith, h, t, half, j, same)) ∙ sym j ∙ half) in
+      id2 ∙ id_fits u.len (omega (arith, h, k, half, j, same)) ∙ sym j ∙ half) in
       rw e
       record {
-        nodes = held_as (ns ++ both) (ap (λ (l : List Node). ns ++ l) parts) (adds_both (nodes fs) (map (λ (f : ℕ). new_node x f w) (reverse gs)) adds more ns has);
+        nodes = held_as (ns ++ both) (ap (λ (l : List Node). ns ++ l) parts) (adds_both t u v (nodes fs) (map (λ (f : ℕ). new_node x f w) (reverse gs)) adds more ns has);
         chains = λ h. rw (right h, left h, z, same) refl;
-        below = λ h. ((omega (arith, t, left h), omega arith), omega (arith, t, right h, same));
+        below = λ h. record { on_left = omega (arith, k, left h); on_middle = omega arith; on_right = omega (arith, k, right h, same) };
       }

@@ -7,16 +7,16 @@ use lib.ListN.{length, length-append}
 use Rattle.definition.specs.Limits.{most_formulas}
 use Rattle.definition.specs.Records.{Rec}
 use Rattle.definition.specs.Rules.{Expansion}
-use Rattle.formula.specs.Recorded.{Recorded, recorded, too_many}
+use Rattle.formula.specs.Recorded.{Recorded, HasRecords, recorded, too_many}
+use Rattle.formula.specs.declared.Formulas.{Formulas}
 use Rattle.formula.proofs.Recorded.{recorded_count, recorded_fits}
 use Rattle.rules.specs.declared.Consequence.{Consequence}
-use Rattle.rules.specs.declared.Expanded.{Expanded}
 use Rattle.rules.specs.Consequences.{consequence_of}
 use Rattle.rules.specs.Expands.{Expands}
 
 -- what a function that makes the record x does
-abbrev pub Pushes : ℕ → List ℕ → Rec → ℕ → List ℕ → Type 0
-Pushes n a x m b = (rs : List Rec) → Recorded rs n a → Recorded (rs ++ (x ∷ [])) m b
+abbrev pub Pushes : Formulas → Rec → Formulas → Type 0
+Pushes f x g = (rs : List Rec) → HasRecords rs f → HasRecords (rs ++ (x ∷ [])) g
 
 -- ---- room
 over : (rs : List Rec) {m : ℕ} {b : List ℕ} (xs ys : List Rec) → most_formulas < length rs → Recorded (rs ++ xs) m b → Recorded (rs ++ ys) m b
@@ -32,36 +32,36 @@ room : {rs : List Rec} {n m : ℕ} {a b : List ℕ} (xs : List Rec) → Recorded
 room {rs} xs p q h = recorded_fits p (omega (arith, length-append rs xs, recorded_count q h))
 
 -- ---- expansions
-pub expands_as : {rs : List Rec} {n : ℕ} {a b : List ℕ} {r : Expanded} (d e : Expansion) → Recorded rs n a → (n ≤ most_formulas → d ≡ e) → Expands rs d r b → Expands rs e r b
-expands_as d e p f x =
+pub expands_as : {rs : List Rec} {n : ℕ} {a : List ℕ} {r : Consequence} {f : Formulas} (d e : Expansion) → Recorded rs n a → (n ≤ most_formulas → d ≡ e) → Expands rs d r f → Expands rs e r f
+expands_as d e p same x =
     record {
-      records = instead d.made e.made p (λ h. ap (λ (t : Expansion). t.made) (f h)) x.records;
-      rule = λ h. x.rule h ∙ ap (λ (t : Expansion). t.rule) (f (room d.made p x.records h));
+      records = instead d.made e.made p (λ h. ap (λ (t : Expansion). t.made) (same h)) x.records;
+      rule = λ h. x.rule h ∙ ap (λ (t : Expansion). t.rule) (same (room d.made p x.records h));
     }
 
-module _ {rs : List Rec} {n : ℕ} {a : List ℕ} {c : Consequence} (e : Expansion) (has : Recorded rs n a) where
-  pub expands_none : e.made ≡ [] → consequence_of c ≡ e.rule → Expands rs e (record { formulas = n; rule = c }) a
-  expands_none d f = record { records = rw (d, append-nil) has; rule = λ h. f }
+module _ {rs : List Rec} (f : Formulas) {c : Consequence} (e : Expansion) (has : HasRecords rs f) where
+  pub expands_none : e.made ≡ [] → consequence_of c ≡ e.rule → Expands rs e c f
+  expands_none d r = record { records = rw (d, append-nil) has; rule = λ h. r }
 
-  module _ {m u : ℕ} {b : List ℕ} (x : Rec) (number : n ≤ most_formulas → u ≡ n) (push : Pushes n a x m b) where
-    pub expands_one : e.made ≡ x ∷ [] → (u ≡ length rs → consequence_of c ≡ e.rule) → Expands rs e (record { formulas = m; rule = c }) b
-    expands_one d f =
+  module _ {u : ℕ} (g : Formulas) (x : Rec) (number : f.count ≤ most_formulas → u ≡ f.count) (push : Pushes f x g) where
+    pub expands_one : e.made ≡ x ∷ [] → (u ≡ length rs → consequence_of c ≡ e.rule) → Expands rs e c g
+    expands_one d r =
         record {
           records = rw d (push rs has);
-          rule = λ h. let g = room (x ∷ []) has (push rs has) h in f (number g ∙ sym (recorded_count has g));
+          rule = λ h. let k = room (x ∷ []) has (push rs has) h in r (number k ∙ sym (recorded_count has k));
         }
 
-    pub expands_two : {k v : ℕ} {t : List ℕ} (y : Rec) → (m ≤ most_formulas → v ≡ m) → Pushes m b y k t
+    pub expands_two : {v : ℕ} {t : Formulas} (y : Rec) → (g.count ≤ most_formulas → v ≡ g.count) → Pushes g y t
         → (u ≡ length rs → e.made ≡ x ∷ y ∷ []) → (u ≡ length rs → v ≡ suc (length rs) → consequence_of c ≡ e.rule)
-        → Expands rs e (record { formulas = k; rule = c }) t
-    expands_two {k} {v} {t} y number2 push2 d f =
+        → Expands rs e c t
+    expands_two {t = t} y number2 push2 d r =
         let p1 = push rs has in
-        let p2 : Recorded ((rs ++ (x ∷ [])) ++ (y ∷ [])) k t = push2 (rs ++ (x ∷ [])) p1 in
-        let whole : Recorded (rs ++ (x ∷ y ∷ [])) k t = rw append_assoc at p2 in
+        let p2 : HasRecords ((rs ++ (x ∷ [])) ++ (y ∷ [])) t = push2 (rs ++ (x ∷ [])) p1 in
+        let both : HasRecords (rs ++ (x ∷ y ∷ [])) t = rw append_assoc at p2 in
         record {
-          records = instead (x ∷ y ∷ []) e.made has (λ h. sym (d (number h ∙ sym (recorded_count has h)))) whole;
+          records = instead (x ∷ y ∷ []) e.made has (λ h. sym (d (number h ∙ sym (recorded_count has h)))) both;
           rule = λ h.
               let h1 = room (y ∷ []) p1 p2 h in
               let h0 = room (x ∷ []) has p1 h1 in
-              f (number h0 ∙ sym (recorded_count has h0)) (number2 h1 ∙ omega (arith, recorded_count p1 h1, length-append rs (x ∷ [])));
+              r (number h0 ∙ sym (recorded_count has h0)) (number2 h1 ∙ omega (arith, recorded_count p1 h1, length-append rs (x ∷ [])));
         }

@@ -4,8 +4,9 @@ use Rattle.definition.specs.Limits.{most_formulas}
 use Rattle.definition.specs.Records as kind
 use Rattle.definition.specs.Records.{Rec, made}
 use Rattle.definition.specs.Rules.{Expansion, expansion_by, non_expansion}
-use Rattle.formula.specs.Recorded.{Recorded}
-use Rattle.rules.specs.declared.Expanded.{Expanded}
+use Rattle.formula.specs.Recorded.{HasRecords}
+use Rattle.formula.specs.declared.Formulas.{Formulas}
+use Rattle.rules.specs.declared.Consequence.{Consequence}
 use Rattle.rules.specs.declared.LogicRule.{LogicRule}
 use Rattle.rules.specs.declared.LogicRule.TheVariants.{Nothing, And, Or, Imply, BiImply, StrictImply, Possible, Necessary, NonNon, NonAnd, NonOr, NonImply, NonBiImply, NonStrictImply, NonPossible, NonNecessary}
 use Rattle.rules.specs.Consequences.{consequence_of}
@@ -33,7 +34,7 @@ expansion_of NonStrictImply = non_expansion kind.StrictImply
 expansion_of NonPossible = non_expansion kind.Possible
 expansion_of NonNecessary = non_expansion kind.Necessary
 
--- the array holds the records and those that the rule makes; where they fit, the consequence is the rule
-pub record Expands (rs : List Rec) (e : Expansion) (r : Expanded) (a : List ℕ) : Type 0 where
-  pub records : Recorded (rs ++ e.made) r.formulas a
-  pub rule : r.formulas ≤ most_formulas → consequence_of r.rule ≡ e.rule
+-- the records and those that the rule makes are held; where they fit, the consequence is the rule
+pub record Expands (rs : List Rec) (e : Expansion) (r : Consequence) (f : Formulas) : Type 0 where
+  pub records : HasRecords (rs ++ e.made) f
+  pub rule : f.count ≤ most_formulas → consequence_of r ≡ e.rule

@@ -1,15 +1,17 @@
 -- What a record says and denies, by its kind's number and its fields' as they are read.
 use Prim.Native.Nat.{ℕ, ◌≤◌}
-use mathlib.Core.Path.{◌≡◌, refl, sym, ◌∙◌, subst}
-use mathlib.Core.Bool.{Bool, true, false, and-true, and-false}
+use mathlib.Core.Path.{◌≡◌, refl, subst}
+use mathlib.Core.Bool.{Bool, true, false}
 use mathlib.Core.List.{List, [], ◌∷◌}
 use lib.Dec.{eqb}
 use borrow.Author.Tests.{eq-eqb, ne_eqb}
 use Rattle.definition.specs.Limits.{most_formulas}
-use Rattle.definition.specs.Lists.{empty}
-use Rattle.definition.proofs.Basics.Lists.{true_false}
 use Rattle.definition.specs.Records.{Rec, number_of, rec_at, formula_of}
 use Rattle.definition.specs.Contradiction.{both, atom_of, atoms_of, said, denied, opposed, are_formulas_contradictory}
+use Rattle.std.specs.Option.{is_some}
+use Rattle.std.specs.Prelude.{Option, None, Some}
+use Rattle.semantics.specs.declared.Literal.{Literal}
+use Rattle.semantics.specs.Literal.{atoms_in}
 use Rattle.formula.specs.Recorded.{Recorded}
 use Rattle.formula.proofs.Numbers.{formula_as}
 
@@ -83,36 +85,15 @@ module _ {rs : List Rec} {n : ℕ} {a : List ℕ} (p : Recorded rs n a) (h : n �
   denied_formula = formula_as (denied rs) refl p h f
 
 -- ---- opposed
-module _ (a x : ℕ) where
-  pub atom_atom : eqb a x ≡ opposed (a ∷ []) (x ∷ [])
-  unfolding opposed
-  atom_atom = sym (and-true (eqb a x))
-
-  pub atom_pair : (y : ℕ) → false ≡ opposed (a ∷ []) (x ∷ y ∷ [])
-  unfolding opposed
-  atom_pair y = sym (and-false (eqb a x))
-
-  pub pair_atom : (b : ℕ) → false ≡ opposed (a ∷ b ∷ []) (x ∷ [])
-  unfolding opposed
-  pair_atom b = sym (and-false (eqb a x))
-
-  pub pair_pair : (b y : ℕ) → a ≡ x → eqb b y ≡ opposed (a ∷ b ∷ []) (x ∷ y ∷ [])
-  unfolding opposed
-  pair_pair b y h = rw (eq-eqb a x h) (sym (and-true (eqb b y)))
-
-  pub pair_differs : (b y : ℕ) → (a ≡ x → ⊥) → eqb a x ≡ opposed (a ∷ b ∷ []) (x ∷ y ∷ [])
-  unfolding opposed
-  pair_differs b y h = rw (ne_eqb a x h) refl
-
-pub none_opposed : (xs : List ℕ) → false ≡ opposed xs []
+none_opposed : (xs : List ℕ) → false ≡ opposed xs []
 unfolding opposed
 none_opposed [] = refl
 none_opposed (x ∷ xs) = refl
 
--- what is read as nothing is opposed to nothing
-pub nothing_opposed : (us : List ℕ) {vs ws : List ℕ} {b : Bool} → b ≡ empty vs → b ≡ true → vs ≡ ws → false ≡ opposed us ws
-nothing_opposed us {vs = []} e h q = subst (λ (l : List ℕ). false ≡ opposed us l) q (none_opposed us)
-nothing_opposed us {vs = v ∷ vs} e h q = true_false (sym h ∙ e)
+-- what is no literal is opposed to nothing
+pub nothing_opposed : (us : List ℕ) {ws : List ℕ} (o : Option Literal) → is_some o ≡ false → atoms_in o ≡ ws → false ≡ opposed us ws
+nothing_opposed us None h q = subst (λ (l : List ℕ). false ≡ opposed us l) q (none_opposed us)
+nothing_opposed us (Some o) h q = cc
 
 module _ (rs : List Rec) (p q : Rec) (xs ys : List ℕ) (ex : xs ≡ said rs p) (ey : ys ≡ denied rs q) where
   pub first_opposed : (b : Bool) → b ≡ opposed xs ys → b ≡ true → true ≡ are_formulas_contradictory rs p q

@@ -6,117 +6,93 @@ ghost use Rattle.definition.specs.Limits.{most_formulas};
 ghost use Rattle.definition.specs.Lists.{empty};
 ghost use Rattle.definition.specs.Records.{Rec, rec_at, formula_of};
 ghost use Rattle.definition.specs.Contradiction.{atom_of, atoms_of, said, denied, opposed, are_formulas_contradictory};
-ghost use Rattle.formula.specs.Recorded.{Recorded};
+ghost use Rattle.formula.specs.Recorded.{HasRecords};
 ghost use Rattle.semantics.specs.Literal.{atoms_in, Claims};
 
-use formula::{FormulaNumber, kind_at, left_at, right_at};
-use limits::Formulas;
+use formula::{FormulaNumber, Formulas, Kind};
 
-// What a formula says or denies: no atom, one, or the agreement of two in this order.
-#[derive(Clone, Copy)]
+// What a formula can say or deny: one atom, or the agreement of two in this order.
+#[derive(Clone, Copy, Debug, PartialEq, Eq)]
 pub enum Literal {
-    Nothing,
     Atom(u16),
     Pair(u16, u16),
 }
 
 // The number of an atom.
-fn atom_of(formulas: &Formulas, count: usize, f: FormulaNumber) -> Literal
-    ensures { (rs : List Rec) → Recorded rs count formulas.now → count ≤ most_formulas → atoms_in result ≡ atom_of rs (rec_at rs f.0) }
+fn atom_of(formulas: &Formulas, f: FormulaNumber) -> Option<Literal>
+    ensures { (rs : List Rec) → HasRecords rs formulas.now → formulas.now.count ≤ most_formulas → atoms_in result ≡ atom_of rs (rec_at rs f.0) }
 {
-    if kind_at(formulas, count, f) != 0 {
-        return Literal::Nothing;
+    if formulas.kind_at(f) != Kind::Atomic as u16 {
+        return None;
     }
-    let a = left_at(formulas, count, f);
-    Literal::Atom(a.0)
+    let a = formulas.left_at(f);
+    Some(Literal::Atom(a.0))
 }
 
 // Of an atom its number, of a BiImply of two atoms both.
-fn atoms_of(formulas: &Formulas, count: usize, f: FormulaNumber) -> Literal
-    ensures { (rs : List Rec) → Recorded rs count formulas.now → count ≤ most_formulas → atoms_in result ≡ atoms_of rs (rec_at rs f.0) }
+fn atoms_of(formulas: &Formulas, f: FormulaNumber) -> Option<Literal>
+    ensures { (rs : List Rec) → HasRecords rs formulas.now → formulas.now.count ≤ most_formulas → atoms_in result ≡ atoms_of rs (rec_at rs f.0) }
 {
-    if kind_at(formulas, count, f) != 5 {
-        return atom_of(formulas, count, f);
+    if formulas.kind_at(f) != Kind::BiImply as u16 {
+        return atom_of(formulas, f);
     }
-    let p = left_at(formulas, count, f);
-    if kind_at(formulas, count, p) != 0 {
-        return Literal::Nothing;
+    let p = formulas.left_at(f);
+    if formulas.kind_at(p) != Kind::Atomic as u16 {
+        return None;
     }
-    let q = right_at(formulas, count, f);
-    if kind_at(formulas, count, q) != 0 {
-        return Literal::Nothing;
+    let q = formulas.right_at(f);
+    if formulas.kind_at(q) != Kind::Atomic as u16 {
+        return None;
     }
-    let a = left_at(formulas, count, p);
-    let b = left_at(formulas, count, q);
-    Literal::Pair(a.0, b.0)
+    let a = formulas.left_at(p);
+    let b = formulas.left_at(q);
+    Some(Literal::Pair(a.0, b.0))
 }
 
 // What a formula says: an atom, a BiImply of two atoms, Non Non of an atom.
-fn said(formulas: &Formulas, count: usize, f: FormulaNumber) -> Literal
-    ensures { (rs : List Rec) → Recorded rs count formulas.now → count ≤ most_formulas → atoms_in result ≡ said rs (formula_of rs f.0) }
+fn said(formulas: &Formulas, f: FormulaNumber) -> Option<Literal>
+    ensures { (rs : List Rec) → HasRecords rs formulas.now → formulas.now.count ≤ most_formulas → atoms_in result ≡ said rs (formula_of rs f.0) }
 {
-    if kind_at(formulas, count, f) != 1 {
-        return atoms_of(formulas, count, f);
+    if formulas.kind_at(f) != Kind::Non as u16 {
+        return atoms_of(formulas, f);
     }
-    let p = left_at(formulas, count, f);
-    if kind_at(formulas, count, p) != 1 {
-        return atoms_of(formulas, count, f);
+    let p = formulas.left_at(f);
+    if formulas.kind_at(p) != Kind::Non as u16 {
+        return atoms_of(formulas, f);
     }
-    atom_of(formulas, count, left_at(formulas, count, p))
+    atom_of(formulas, formulas.left_at(p))
 }
 
 // What a formula denies: the atom, or the BiImply of two atoms, under its Non.
-fn denied(formulas: &Formulas, count: usize, f: FormulaNumber) -> Literal
-    ensures { (rs : List Rec) → Recorded rs count formulas.now → count ≤ most_formulas → atoms_in result ≡ denied rs (formula_of rs f.0) }
+fn denied(formulas: &Formulas, f: FormulaNumber) -> Option<Literal>
+    ensures { (rs : List Rec) → HasRecords rs formulas.now → formulas.now.count ≤ most_formulas → atoms_in result ≡ denied rs (formula_of rs f.0) }
 {
-    if kind_at(formulas, count, f) != 1 {
-        return Literal::Nothing;
+    if formulas.kind_at(f) != Kind::Non as u16 {
+        return None;
     }
-    atoms_of(formulas, count, left_at(formulas, count, f))
+    atoms_of(formulas, formulas.left_at(f))
 }
 
 // One says what the other denies.
-fn opposed(p: Literal, q: Literal) -> bool
+fn opposed(p: Option<Literal>, q: Option<Literal>) -> bool
     ensures { result ≡ opposed (atoms_in p) (atoms_in q) }
 {
-    match p {
-        Literal::Nothing => false,
-        Literal::Atom(a) => match q {
-            Literal::Nothing => false,
-            Literal::Atom(b) => a == b,
-            Literal::Pair(_, _) => false,
-        },
-        Literal::Pair(a, b) => match q {
-            Literal::Nothing => false,
-            Literal::Atom(_) => false,
-            Literal::Pair(x, y) => a == x && b == y,
-        },
-    }
-}
-
-fn is_nothing(p: Literal) -> bool
-    ensures { result ≡ empty (atoms_in p) }
-{
-    match p {
-        Literal::Nothing => true,
-        Literal::Atom(_) => false,
-        Literal::Pair(_, _) => false,
-    }
+    p.is_some() && p == q
 }
 
 // What a formula says and denies, so that many can be held against it.
 #[derive(Clone, Copy)]
 pub struct Claim {
-    pub says: Literal,
-    pub denies: Literal,
+    pub says: Option<Literal>,
+    pub denies: Option<Literal>,
 }
 
-pub fn claim_of(formulas: &Formulas, count: usize, f: FormulaNumber) -> Claim
-    ensures { (rs : List Rec) → Recorded rs count formulas.now → count ≤ most_formulas → Claims rs (formula_of rs f.0) result }
+pub fn claim_of(formulas: &Formulas, f: FormulaNumber) -> Claim
+    ensures { (rs : List Rec) → HasRecords rs formulas.now → formulas.now.count ≤ most_formulas → Claims rs (formula_of rs f.0) result }
 {
     Claim {
-        says: said(formulas, count, f),
-        denies: denied(formulas, count, f),
+        says: said(formulas, f),
+        denies: denied(formulas, f),
     }
 }
 
@@ -124,22 +100,18 @@ pub fn claim_of(formulas: &Formulas, count: usize, f: FormulaNumber) -> Claim
 pub fn is_no_literal(c: Claim) -> bool
     ensures { result ≡ (empty (atoms_in c.says) && empty (atoms_in c.denies)) }
 {
-    let says = c.says;
-    let denies = c.denies;
-    is_nothing(says) && is_nothing(denies)
+    c.says.is_none() && c.denies.is_none()
 }
 
 // The formula of a claim and g contradict one another.
-pub fn contradicts(c: Claim, formulas: &Formulas, count: usize, g: FormulaNumber) -> bool
-    ensures { (rs : List Rec) (p : Rec) → Claims rs p c → Recorded rs count formulas.now → count ≤ most_formulas → result ≡ are_formulas_contradictory rs p (formula_of rs g.0) }
+pub fn contradicts(c: Claim, formulas: &Formulas, g: FormulaNumber) -> bool
+    ensures { (rs : List Rec) (p : Rec) → Claims rs p c → HasRecords rs formulas.now → formulas.now.count ≤ most_formulas → result ≡ are_formulas_contradictory rs p (formula_of rs g.0) }
 {
-    let says = c.says;
-    let denies = c.denies;
-    if opposed(says, denied(formulas, count, g)) {
+    if opposed(c.says, denied(formulas, g)) {
         return true;
     }
-    if is_nothing(denies) {
+    if c.denies.is_none() {
         return false;
     }
-    opposed(said(formulas, count, g), denies)
+    opposed(said(formulas, g), c.denies)
 }

@@ -1,12 +1,8 @@
 // What a run is asked with, in one struct that is passed whole, by value.
 #![tactic(auto)]
 
-ghost use Rattle.std.specs.Prelude.{◌≡◌, ◌/◌, ◌%◌, eqb};
-ghost use Rattle.definition.specs.Setting.{setting_of};
-ghost use Rattle.setting.specs.Asked.{asked};
-
 // The fields that the Rust's NormalModalLogic has for the frame, and whether contradiction checks are skipped.
-#[derive(Clone, Copy)]
+#[derive(Clone, Copy, Debug, PartialEq, Eq)]
 pub struct Setting {
     pub is_reflexive: bool,
     pub is_symmetric: bool,
@@ -14,22 +10,20 @@ pub struct Setting {
     pub skip: bool,
 }
 
-// The flag of a value: 1, 2, 4 or 8.
-fn flag(flags: u8, value: u8) -> bool
-    requires { value ≡ 0 → ⊥ }
-    ensures { result ≡ eqb (flags / value % 2) 1 }
-{
-    flags / value % 2 == 1
-}
-
 // What the flag byte asks.
-pub fn setting_of(flags: u8) -> Setting
-    ensures { asked result ≡ setting_of flags }
-{
-    Setting {
-        is_reflexive: flag(flags, 1),
-        is_symmetric: flag(flags, 2),
-        is_transitive: flag(flags, 4),
-        skip: flag(flags, 8),
+impl From<u8> for Setting {
+    ghost use Rattle.std.specs.Prelude.{◌≡◌};
+    ghost use Rattle.definition.specs.Setting.{setting_of};
+    ghost use Rattle.setting.specs.Asked.{asked};
+
+    ghost from_gives = { λ flags setting. asked setting ≡ setting_of flags };
+
+    fn from(flags: u8) -> Setting {
+        Setting {
+            is_reflexive: flags & 1 != 0,
+            is_symmetric: flags & 2 != 0,
+            is_transitive: flags & 4 != 0,
+            skip: flags & 8 != 0,
+        }
     }
 }

@@ -1,14 +1,16 @@
 -- Laws of a slice while it is written.
-use Prim.Native.Nat.{ℕ, suc, ◌+◌, ◌-◌, ◌/◌, ◌%◌, ◌≤◌, ◌<◌}
+use Prim.Native.Nat.{ℕ, suc, ◌+◌, ◌-◌, ◌%◌, ◌≤◌, ◌<◌}
 use mathlib.Core.Path.{◌≡◌, refl, sym, ap, ◌∙◌, subst}
 use mathlib.Core.List.{List, [], ◌∷◌, ◌++◌, append_assoc, append-nil}
 use native.Mathlib.Omega.{arith}
 use native.Mathlib.Numerals.{add-one}
 use native.Mathlib.Nat.{sub-zero}
+use borrow.Rule.Slice.PartMut.{put_mid}
+use Rattle.std.proofs.lemmas.List.{take_at, drop_at, drop-drop}
 use lib.ListN.{length, get_or, set, take, drop, replicate, length-append, length-take, length-drop, take-append-drop}
 use lib.Seq.{drop-cons, set_at, append_snoc}
 use Rattle.definition.specs.Lists.{padded}
-use Rattle.definition.specs.Trays.{two, over}
+use Rattle.definition.specs.Trays.{over}
 use Rattle.definition.proofs.Basics.Lists.{length_padded}
 use Rattle.slices.specs.Written.{Written, Puts}
 
@@ -32,12 +34,6 @@ over_set w lent b h =
 pub written_none : (lent : List ℕ) → Written lent [] 0 lent
 unfolding over
 written_none lent = record { ends = refl; cells = refl }
-
-written_at : (t : List ℕ) (at : ℕ) → at ≤ length t → Written t (take at t) at t
-unfolding over
-written_at t at h =
-    let e : length (take at t) ≡ at = simp length-take (omega arith) in
-    record { ends = sym e; cells = rw e (sym (take-append-drop at t)) }
 
 module _ {lent w t : List ℕ} {at : ℕ} (h : Written lent w at t) where
   pub written_length : length w ≤ length lent → length t ≡ length lent
@@ -67,20 +63,6 @@ puts_then {bs} {cs} {v} {last} p q =
 
 pub puts_as : {bs cs t u : List ℕ} {at next : ℕ} → bs ≡ cs → Puts bs at t next u → Puts cs at t next u
 puts_as {bs} {cs} {t} {u} {at} {next} e p = subst (λ (l : List ℕ). Puts l at t next u) e p
-
--- where there is no room for a second byte, the first is all that is put; where there is none for the first, nothing is
-module _ {t u v : List ℕ} {at next last : ℕ} (second : length u ≤ next → (last ≡ next) × (v ≡ u)) where
-  pub puts_one_only : {b low : ℕ} → low ≡ b → Puts (low ∷ []) at t next u → length t ≡ at + 1 → Puts (b ∷ []) at t last v
-  puts_one_only {b} {low} e p h =
-      let z = p.puts t (take at t) (written_at t at (omega arith)) (omega (arith, length-take at t)) in
-      let k = second (omega (arith, z.ends, length-append (take at t) (low ∷ []), length-take at t, written_length z (omega (arith, length-append (take at t) (low ∷ []), length-take at t)))) in
-      rw (k.0, k.1, sym e) p
-
-  pub puts_none : (length t ≤ at → (next ≡ at) × (u ≡ t)) → length t ≤ at → (last ≡ at) × (v ≡ t)
-  puts_none first h = let f = first h in let k = second (omega (arith, f.0, ap length f.1)) in (k.0 ∙ f.0, k.1 ∙ f.1)
-
-pub puts_two : {t u v : List ℕ} {at next last low high : ℕ} (n : ℕ) → low ≡ n % 256 → high ≡ n / 256 → Puts (low ∷ []) at t next u → Puts (high ∷ []) next u last v → Puts (two n) at t last v
-puts_two n p q a b = puts_as (rw (p, q)) (puts_then a b)
 
 -- ---- a loop that writes the goal: what stands before the position, and what is left, make it up
 pub record Writing (goal rest lent : List ℕ) (at : ℕ) (slice : List ℕ) : Type 0 where
@@ -117,23 +99,18 @@ pub padded_none : (n : ℕ) → padded n [] ≡ replicate n 0
 unfolding padded
 padded_none n = rw sub-zero
 
-abbrev pub Zeros : (end : ℕ) (w lent : List ℕ) (i : ℕ) (slice : List ℕ) → Type 0
-Zeros end w lent i slice = Writing (padded end w) (replicate (end - i) 0) lent i slice
+-- zeros over the part from a position to an end
+module _ {at end : ℕ} (t : List ℕ) {f : List ℕ} (rising : at ≤ end) (inside : end ≤ length t) (zeros : f ≡ replicate (length (take (end - at) (drop at t))) 0) where
+  part_zeros : f ≡ replicate (end - at) 0
+  part_zeros = let n : length (take (end - at) (drop at t)) ≡ end - at = simp (length-take, length-drop) (omega arith) in zeros ∙ rw n
 
-module _ (end : ℕ) (w lent : List ℕ) (fits : length w ≤ end) (room : end ≤ length lent) where
-  goal_fits : length (padded end w) ≤ length lent
-  goal_fits = omega (arith, length_padded end w fits)
+  pub zeros_none : end ≤ at → put_mid at (end - at) t f ≡ t
+  zeros_none h = let z : end - at ≡ 0 = omega arith in rw (part_zeros, z) (take-append-drop at t)
 
-  one_less : (i : ℕ) → i < end → replicate {A = ℕ} (end - i) 0 ≡ 0 ∷ replicate (end - (i + 1)) 0
-  one_less i h = let e : end - i ≡ suc (end - (i + 1)) = omega arith in rw e
-
-  pub zeros_start : {at : ℕ} {t : List ℕ} → Written lent w at t → Zeros end w lent at t
-  unfolding padded
-  zeros_start {at} h = writing_start (replicate (end - at) 0) h (ap (λ (k : ℕ). w ++ replicate (end - k) 0) h.ends)
-
-  module _ (i : ℕ) {t : List ℕ} (z : Zeros end w lent i t) where
-    pub zeros_next : i < end → Zeros end w lent (i + 1) (set t i 0)
-    zeros_next h = writing_one z 0 (replicate (end - (i + 1)) 0) (one_less i h) goal_fits
-
-    pub zeros_end : end ≤ i → t ≡ over (padded end w) lent
-    zeros_end h = let e : end - i ≡ 0 = omega arith in (writing_end z (rw e)).cells
+  pub zeros_filled : (w lent : List ℕ) → Written lent w at t → length w ≤ end → put_mid at (end - at) t f ≡ over (padded end w) lent
+  unfolding padded over
+  zeros_filled w lent h fits =
+      let n : length (w ++ replicate (end - length w) 0) ≡ end = omega (arith, length_padded end w fits) in
+      let m : length w + (end - length w) ≡ end = omega arith in
+      rw (part_zeros, h.cells, h.ends, n, take_at w (drop (length w) lent) (length w) refl, drop_at w (drop (length w) lent) (length w) refl, drop-drop (end - length w) (length w) lent, m)
+      (sym (append_assoc w (replicate (end - length w) 0) (drop end lent)))

@@ -6,18 +6,6 @@ ghost use Rattle.definition.specs.Lists.{padded};
 ghost use Rattle.definition.specs.Trays.{two, over};
 ghost use Rattle.slices.specs.Written.{Written, Puts};
 
-pub fn low(n: u16) -> u8
-    ensures { result ≡ n % 256 }
-{
-    (n % 256) as u8
-}
-
-pub fn high(n: u16) -> u8
-    ensures { result ≡ n / 256 }
-{
-    (n / 256) as u8
-}
-
 // One byte at a position; beyond the end, nothing.
 pub fn put(slice: &mut [u8], at: usize, b: u8) -> usize
     ensures { Puts (b ∷ []) at slice.old result slice.new
@@ -36,10 +24,9 @@ pub fn put_two(slice: &mut [u8], at: usize, n: u16) -> usize
         × (length slice.old ≡ at + 1 → Puts (n % 256 ∷ []) at slice.old result slice.new)
         × (length slice.old ≤ at → (result ≡ at) × (slice.new ≡ slice.old)) }
 {
-    let l = low(n);
-    let h = high(n);
-    let next = put(slice, at, l);
-    put(slice, next, h)
+    let [low, high] = n.to_le_bytes();
+    let next = put(slice, at, low);
+    put(slice, next, high)
 }
 
 // Zeros from a position to an end; a slice that is shorter is left.
@@ -50,9 +37,8 @@ pub fn put_zeros(slice: &mut [u8], at: usize, end: usize)
     if slice.len() < end {
         return;
     }
-    let mut i = at;
-    while i < end {
-        slice[i] = 0;
-        i += 1;
+    if end < at {
+        return;
     }
+    slice[at..end].fill(0);
 }

@@ -1,4 +1,4 @@
 pub mod Chains
 pub mod Subtrees
 pub mod Placing
-pub mod Items
+pub mod Rows

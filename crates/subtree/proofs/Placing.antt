@@ -5,41 +5,42 @@ use mathlib.Core.List.{List, [], ◌∷◌, ◌++◌, map, append-nil}
 use native.Mathlib.Omega.{arith}
 use native.Mathlib.Numerals.{add-one}
 use native.Mathlib.Nat.{pos_of_ne-zero}
-use lib.ListN.{length, get_or, drop, replicate, length-append, length-map, drop_of_length-le}
+use lib.ListN.{length, get_or, drop, length-append, length-map, drop_of_length-le}
 use lib.Seq.{drop-cons}
 use Rattle.definition.specs.Limits.{most_identifiers}
-use Rattle.arrays.specs.Listed.{Listed, listed, too_long}
-use Rattle.arrays.proofs.Listed.{listed_none, listed_count}
+use Rattle.arrays.specs.Listed.{Listed, HasList, listed, too_long}
+use Rattle.arrays.specs.declared.Numbers.{Numbers}
+use Rattle.arrays.proofs.Listed.{listed_count}
 use Rattle.definition.specs.Lists.{filter}
 use Rattle.definition.specs.Tree.{Node, link_chain, leaves}
 use Rattle.definition.specs.Subtree.{Subtree, flat, turned, numbered, copied, Placed, append_subtree_on_leaf, push_subtree, append_copies, append_on, takes, append_subtree}
 use Rattle.definition.specs.TreeShape.{Treed}
 use Rattle.definition.proofs.Tree.Nodes.{length_leaf, ext_copies, ext_subtree}
 use Rattle.definition.proofs.Basics.Identifiers.{flat_numbered, length_from}
-use Rattle.tree.specs.Lay.{lay, Lays, Held, too_many}
+use Rattle.tree.specs.Lay.{lay, Laid, Held, HasNodes, too_many}
+use Rattle.tree.specs.declared.ProofTree.{ProofTree}
 use Rattle.tree.proofs.Nodes.{held_ok, held_lays, held_fits, held_same, held_long}
 use Rattle.subtree.specs.declared.ProofSubtree.{ProofSubtree}
-use Rattle.subtree.specs.declared.Counts.{Counts}
-use Rattle.subtree.specs.declared.IssuedSubtree.{IssuedSubtree}
 use Rattle.subtree.specs.Subtree.{subtree_of, Within, Chained, Attached, Left}
 use Rattle.subtree.proofs.Chains.{more}
 use Rattle.subtree.proofs.Subtrees.{size_of, within_more}
 
 -- ---- a copy below one leaf
-pub copy_placed : (s : ProofSubtree) (t : IssuedSubtree) (ns : List Node) (q : List ℕ) (y : ℕ) {len n w : ℕ} {a a₁ a₂ b b' : List ℕ} → Held ns len a → (len ≤ most_identifiers → Listed q n b) → Within s (length ns)
-    → ((ms : List Node) → Held ms len a → Within s (length ms) → Attached ms s t a₁)
-    → ((ms : List Node) → Held ms t.len a₁ → (length ms ≤ most_identifiers → Within t.subtree (length ms)) → Held (append_subtree_on_leaf ms y (subtree_of t.subtree)) t.len a₂)
-    → ((l : List ℕ) → Listed l n b → Within t.subtree most_identifiers → Listed (push_subtree l (subtree_of t.subtree)) w b')
-    → Left (append_copies ns q (y ∷ []) (subtree_of s)) (record { nodes = t.len; listed = w }) a₂ b'
+pub copy_placed : (s r : ProofSubtree) (ns : List Node) (q : List ℕ) (y : ℕ) (t t₁ t₂ : ProofTree) (w w' : Numbers) → HasNodes ns t → (t.len ≤ most_identifiers → HasList q w) → Within s (length ns)
+    → ((ms : List Node) → HasNodes ms t → Within s (length ms) → Attached ms s r t₁)
+    → (t₂.len ≡ t₁.len) × ((ms : List Node) → HasNodes ms t₁ → (length ms ≤ most_identifiers → Within r (length ms)) → HasNodes (append_subtree_on_leaf ms y (subtree_of r)) t₂)
+    → ((l : List ℕ) → HasList l w → Within r most_identifiers → HasList (push_subtree l (subtree_of r)) w')
+    → Left (append_copies ns q (y ∷ []) (subtree_of s)) t₂ w'
 unfolding append_copies
-copy_placed s t ns q y {len} {n} {w} {a} {a₁} {a₂} {b} {b'} p f i attaches hangs pushes =
+copy_placed s r ns q y t t₁ t₂ w w' p f i attaches hangs pushes =
     record {
       nodes =
-          held_same (append_subtree_on_leaf u y new) (hangs u here (λ h. let g = held_fits here h in within_more t.subtree (omega (arith, (held_ok here g).0)) (copies.chains g).within))
-          (length_leaf u y (subtree_of t.subtree) ∙ sym (length_leaf u y new)) (λ h. ap (λ (x : Subtree). lay (append_subtree_on_leaf u y x)) (copies.chains h).are);
+          held_same (append_subtree_on_leaf u y new) (hangs.1 u here (λ h. let g = held_fits here h in within_more r (omega (arith, (held_ok here g).0)) (copies.chains g).within))
+          (length_leaf u y (subtree_of r) ∙ sym (length_leaf u y new)) (λ h. ap (λ (x : Subtree). lay (append_subtree_on_leaf u y x)) (copies.chains (omega (arith, hangs.0, h))).are);
       queue = λ h.
-          subst (λ (x : Subtree). Listed (push_subtree q x) w b') (copies.chains h).are
-          (pushes q (f (held_fits p (omega (arith, (held_ok here h).0, h, length-append ns (map (copied ns) (flat (subtree_of s))))))) (within_more t.subtree h (copies.chains h).within));
+          let g : t₁.len ≤ most_identifiers = omega (arith, hangs.0, h) in
+          subst (λ (x : Subtree). HasList (push_subtree q x) w') (copies.chains g).are
+          (pushes q (f (held_fits p (omega (arith, (held_ok here g).0, g, length-append ns (map (copied ns) (flat (subtree_of s))))))) (within_more r g (copies.chains g).within));
     }
   where
     new : Subtree
@@ -48,21 +49,21 @@ copy_placed s t ns q y {len} {n} {w} {a} {a₁} {a₂} {b} {b'} p f i attaches h
     u : List Node
     u = more ns (flat (subtree_of s))
 
-    copies : Attached ns s t a₁
+    copies : Attached ns s r t₁
     copies = attaches ns p i
 
-    here : Held (more ns (flat (subtree_of s))) t.len a₁
+    here : HasNodes (more ns (flat (subtree_of s))) t₁
     here = copies.nodes
 
 -- ---- the loop of `append_copies`: the copies for the leaves that are left lead to the goal
-pub record Copying (goal : Placed) (s : ProofSubtree) (rest : List ℕ) (low : ℕ) (r : Counts) (a w : List ℕ) : Type 0 where
+pub record Copying (goal : Placed) (s : ProofSubtree) (rest : List ℕ) (low : ℕ) (t : ProofTree) (w : Numbers) : Type 0 where
   pub so_far : Placed
-  pub here : Left so_far r a w
+  pub here : Left so_far t w
   pub longer : low ≤ length so_far.nodes
   pub same : append_copies so_far.nodes so_far.waiting rest (subtree_of s) ≡ goal
 
-pub copies_start : (ns : List Node) (q : List ℕ) (s : ProofSubtree) (ls : List ℕ) {len n : ℕ} {a w : List ℕ} → Held ns len a → (len ≤ most_identifiers → Listed q n w)
-    → Copying (append_copies ns q ls (subtree_of s)) s ls (length ns) (record { nodes = len; listed = n }) a w
+pub copies_start : (ns : List Node) (q : List ℕ) (s : ProofSubtree) (ls : List ℕ) {t : ProofTree} {w : Numbers} → HasNodes ns t → (t.len ≤ most_identifiers → HasList q w)
+    → Copying (append_copies ns q ls (subtree_of s)) s ls (length ns) t w
 copies_start ns q s ls p f = record { so_far = record { nodes = ns; waiting = q }; here = record { nodes = p; queue = f }; longer = omega arith; same = refl }
 
 copies_cons : (t : List Node) (q : List ℕ) (x : ℕ) (ls : List ℕ) (s : Subtree)
@@ -74,10 +75,10 @@ copies_nil : (t : List Node) (q : List ℕ) (s : Subtree) → append_copies t q 
 unfolding append_copies
 copies_nil t q s = refl
 
-pub copies_next : {goal : Placed} {low : ℕ} {r r' : Counts} {a a' w w' : List ℕ} (s : ProofSubtree) (ls : List ℕ) (k x : ℕ) → k < length ls → x ≡ get_or ls k 0 → Within s low
-    → Copying goal s (drop k ls) low r a w
-    → ((ns : List Node) (q : List ℕ) → Held ns r.nodes a → (r.nodes ≤ most_identifiers → Listed q r.listed w) → Within s (length ns) → Left (append_copies ns q (x ∷ []) (subtree_of s)) r' a' w')
-    → Copying goal s (drop (k + 1) ls) low r' a' w'
+pub copies_next : {goal : Placed} {low : ℕ} {t t' : ProofTree} {w w' : Numbers} (s : ProofSubtree) (ls : List ℕ) (k x : ℕ) → k < length ls → x ≡ get_or ls k 0 → Within s low
+    → Copying goal s (drop k ls) low t w
+    → ((ns : List Node) (q : List ℕ) → HasNodes ns t → (t.len ≤ most_identifiers → HasList q w) → Within s (length ns) → Left (append_copies ns q (x ∷ []) (subtree_of s)) t' w')
+    → Copying goal s (drop (k + 1) ls) low t' w'
 copies_next s ls k x h e i c f =
     let t = c.so_far.nodes in
     let q = c.so_far.waiting in
@@ -96,10 +97,10 @@ copies_next s ls k x h e i c f =
     }
 
 -- what is left, under an equal name
-pub left_as : {p : Placed} {r : Counts} {a w : List ℕ} (goal : Placed) → record { nodes = p.nodes; waiting = p.waiting } ≡ goal → Left p r a w → Left goal r a w
-left_as {p} {r} {a} {w} goal e l = subst (λ (x : Placed). Left x r a w) e (record { nodes = l.nodes; queue = l.queue })
+pub left_as : {p : Placed} {t : ProofTree} {w : Numbers} (goal : Placed) → record { nodes = p.nodes; waiting = p.waiting } ≡ goal → Left p t w → Left goal t w
+left_as {p} {t} {w} goal e l = subst (λ (x : Placed). Left x t w) e (record { nodes = l.nodes; queue = l.queue })
 
-pub copies_end : {goal : Placed} {low : ℕ} {r : Counts} {a w : List ℕ} (s : ProofSubtree) (ls : List ℕ) (k : ℕ) → length ls ≤ k → Copying goal s (drop k ls) low r a w → Left goal r a w
+pub copies_end : {goal : Placed} {low : ℕ} {t : ProofTree} {w : Numbers} (s : ProofSubtree) (ls : List ℕ) (k : ℕ) → length ls ≤ k → Copying goal s (drop k ls) low t w → Left goal t w
 copies_end {goal} s ls k h c =
     let t = c.so_far.nodes in
     let q = c.so_far.waiting in
@@ -111,22 +112,22 @@ nil [] e = refl
 nil (x ∷ l) e = absurd (omega arith)
 
 module _ (s : ProofSubtree) (ns : List Node) (q ls : List ℕ) {m : ℕ} {found : List ℕ} (l : Listed ls m found) (g : m ≤ most_identifiers) where
-  pub on_none : {len w : ℕ} {a b : List ℕ} → m ≡ 0 → Held ns len a → (len ≤ most_identifiers → Listed (push_subtree q (subtree_of s)) w b)
-      → Left (append_on ns q ls (subtree_of s)) (record { nodes = len; listed = w }) a b
+  pub on_none : {t : ProofTree} {w : Numbers} → m ≡ 0 → HasNodes ns t → (t.len ≤ most_identifiers → HasList (push_subtree q (subtree_of s)) w)
+      → Left (append_on ns q ls (subtree_of s)) t w
   unfolding append_on
-  on_none {len} {w} {a} {b} z p k =
-      subst (λ (x : List ℕ). Left (append_on ns q x (subtree_of s)) (record { nodes = len; listed = w }) a b) (sym (nil ls (listed_count l g ∙ z)))
+  on_none {t} {w} z p k =
+      subst (λ (x : List ℕ). Left (append_on ns q x (subtree_of s)) t w) (sym (nil ls (listed_count l g ∙ z)))
       (record { nodes = p; queue = k })
 
-  pub on_some : {r : Counts} {a b : List ℕ} (x : ℕ) → (m ≡ 0 → ⊥) → x ≡ get_or ls 0 0
-      → Left (append_copies (append_subtree_on_leaf ns x (subtree_of s)) (push_subtree q (subtree_of s)) (drop 1 ls) (subtree_of s)) r a b → Left (append_on ns q ls (subtree_of s)) r a b
+  pub on_some : {t : ProofTree} {w : Numbers} (x : ℕ) → (m ≡ 0 → ⊥) → x ≡ get_or ls 0 0
+      → Left (append_copies (append_subtree_on_leaf ns x (subtree_of s)) (push_subtree q (subtree_of s)) (drop 1 ls) (subtree_of s)) t w → Left (append_on ns q ls (subtree_of s)) t w
   unfolding append_on
-  on_some {r} {a} {b} x z e = go ls (listed_count l g) e
+  on_some {t} {w} x z e = go ls (listed_count l g) e
     where
       go : (xs : List ℕ) → length xs ≡ m → x ≡ get_or xs 0 0
-          → Left (append_copies (append_subtree_on_leaf ns x (subtree_of s)) (push_subtree q (subtree_of s)) (drop 1 xs) (subtree_of s)) r a b → Left (append_on ns q xs (subtree_of s)) r a b
+          → Left (append_copies (append_subtree_on_leaf ns x (subtree_of s)) (push_subtree q (subtree_of s)) (drop 1 xs) (subtree_of s)) t w → Left (append_on ns q xs (subtree_of s)) t w
       go [] n o k = absurd (z (sym n))
-      go (y ∷ xs) n o k = subst (λ (v : ℕ). Left (append_copies (append_subtree_on_leaf ns v (subtree_of s)) (push_subtree q (subtree_of s)) xs (subtree_of s)) r a b) o k
+      go (y ∷ xs) n o k = subst (λ (v : ℕ). Left (append_copies (append_subtree_on_leaf ns v (subtree_of s)) (push_subtree q (subtree_of s)) xs (subtree_of s)) t w) o k
 
 -- ---- an empty subtree changes nothing
 module _ (s : Subtree) (e : length (flat s) ≡ 0) where
@@ -196,31 +197,31 @@ listed_many (listed b e q) h = absurd (omega arith)
 listed_many (too_long b e) h = e
 
 -- what `takers` finds
-pub found_takers : (target : ℕ) (ns : List Node) {len m : ℕ} {a found : List ℕ} → Held ns len a → len ≤ most_identifiers → (length ns ≤ most_identifiers → Treed ns)
-    → ((ms : List Node) → Treed ms → length ms ≡ len → Lays ms a → Listed [] 0 (replicate most_identifiers 0) → Listed (filter (takes ms target) (leaves ms)) m found)
-    → Listed (filter (takes ns target) (leaves ns)) m found
-found_takers target ns p h r f = let z = held_lays p h in f ns (r z.fits) (held_ok p h).0 z listed_none
+pub found_takers : (target : ℕ) (ns : List Node) (t : ProofTree) (none found : Numbers) → HasNodes ns t → t.len ≤ most_identifiers → (length ns ≤ most_identifiers → Treed ns) → HasList [] none
+    → ((ms : List Node) → Treed ms → length ms ≡ t.len → Laid ms t → HasList [] none → HasList (filter (takes ms target) (leaves ms)) found)
+    → HasList (filter (takes ns target) (leaves ns)) found
+found_takers target ns t none found p h r l f = let z = held_lays p h in f ns (r z.fits) (held_ok p h).0 z l
 
 -- ---- the ways out of `append_subtree`
-pub subtree_full : (t : Subtree) (target : ℕ) (ns : List Node) (q : List ℕ) {len n : ℕ} {a w : List ℕ} → most_identifiers < len → Held ns len a → Left (append_subtree ns q target t) (record { nodes = len; listed = n }) a w
+pub subtree_full : (t : Subtree) (target : ℕ) (ns : List Node) (q : List ℕ) {u : ProofTree} {w : Numbers} → most_identifiers < u.len → HasNodes ns u → Left (append_subtree ns q target t) u w
 subtree_full t target ns q h p = record { nodes = held_long (append_subtree ns q target t).nodes p h (ext_subtree ns q target t).longer; queue = λ g. absurd (omega arith) }
 
 -- what the chains of s give is what t gives
-pub subtree_as : (s : ProofSubtree) (t : Subtree) (target : ℕ) (ns : List Node) (q : List ℕ) {len : ℕ} {a : List ℕ} {r : Counts} {b w : List ℕ} → Held ns len a → len ≤ most_identifiers → (length ns ≤ most_identifiers → Chained s t (length ns))
-    → (Within s (length ns) → Left (append_subtree ns q target (subtree_of s)) r b w) → Left (append_subtree ns q target t) r b w
-subtree_as s t target ns q {r = r} {b} {w} p h c f = let k = c (omega (arith, (held_ok p h).0, h)) in subst (λ (x : Subtree). Left (append_subtree ns q target x) r b w) k.are (f k.within)
+pub subtree_as : (s : ProofSubtree) (t : Subtree) (target : ℕ) (ns : List Node) (q : List ℕ) {len : ℕ} {a : List ℕ} {u : ProofTree} {w : Numbers} → Held ns len a → len ≤ most_identifiers → (length ns ≤ most_identifiers → Chained s t (length ns))
+    → (Within s (length ns) → Left (append_subtree ns q target (subtree_of s)) u w) → Left (append_subtree ns q target t) u w
+subtree_as s t target ns q {u = u} {w} p h c f = let k = c (omega (arith, (held_ok p h).0, h)) in subst (λ (x : Subtree). Left (append_subtree ns q target x) u w) k.are (f k.within)
 
 module _ (s : ProofSubtree) (target : ℕ) (ns : List Node) (q : List ℕ) where
-  pub subtree_none : {len n : ℕ} {a w : List ℕ} → length (flat (subtree_of s)) ≡ 0 → Held ns len a → (len ≤ most_identifiers → Listed q n w)
-      → Left (append_subtree ns q target (subtree_of s)) (record { nodes = len; listed = n }) a w
+  pub subtree_none : {t : ProofTree} {w : Numbers} → length (flat (subtree_of s)) ≡ 0 → HasNodes ns t → (t.len ≤ most_identifiers → HasList q w)
+      → Left (append_subtree ns q target (subtree_of s)) t w
   subtree_none e p f =
       left_as {p = record { nodes = ns; waiting = q }} (append_subtree ns q target (subtree_of s)) (sym (subtree_nothing ns q target (subtree_of s) e)) (record { nodes = p; queue = f })
 
   module _ {m : ℕ} {found : List ℕ} (l : Listed (filter (takes ns target) (leaves ns)) m found) where
-    pub subtree_many : {n : ℕ} {a w : List ℕ} → (length (flat (subtree_of s)) ≡ 0 → ⊥) → Within s (length ns) → most_identifiers < m
-        → Left (append_subtree ns q target (subtree_of s)) (record { nodes = (suc most_identifiers); listed = n }) a w
+    pub subtree_many : {t : ProofTree} {w : Numbers} → t.len ≡ suc most_identifiers → (length (flat (subtree_of s)) ≡ 0 → ⊥) → Within s (length ns) → most_identifiers < m
+        → Left (append_subtree ns q target (subtree_of s)) t w
     unfolding append_subtree
-    subtree_many e i h =
+    subtree_many full e i h =
         let z = pos_of_ne-zero e in
         record {
           nodes =
@@ -229,7 +230,7 @@ module _ (s : ProofSubtree) (target : ℕ) (ns : List Node) (q : List ℕ) where
           queue = λ g. absurd (omega arith);
         }
 
-    pub subtree_on : {r : Counts} {b w : List ℕ} → m ≤ most_identifiers
-        → ((ls : List ℕ) → Listed ls m found → m ≤ most_identifiers → Left (append_on ns q ls (subtree_of s)) r b w) → Left (append_subtree ns q target (subtree_of s)) r b w
+    pub subtree_on : {t : ProofTree} {w : Numbers} → m ≤ most_identifiers
+        → ((ls : List ℕ) → Listed ls m found → m ≤ most_identifiers → Left (append_on ns q ls (subtree_of s)) t w) → Left (append_subtree ns q target (subtree_of s)) t w
     unfolding append_subtree
     subtree_on h f = f (filter (takes ns target) (leaves ns)) l h

@@ -10,9 +10,9 @@ use Rattle.definition.specs.Lists.{up_from, Each}
 use Rattle.definition.specs.Tree.{Node, Place, Left, Middle, Right, new_node, link_chain}
 use Rattle.definition.specs.Subtree.{Subtree, flat, turned, numbered, copied, with_middle, append_subtree_on_leaf, push_subtree}
 use Rattle.definition.proofs.Tree.Nodes.{length_chain, length_leaf, node_append}
-use Rattle.tree.specs.Lay.{place_code, Held}
+use Rattle.tree.specs.Lay.{place_code, Held, HasNodes}
 use Rattle.tree.specs.declared.Chain.{Chain}
-use Rattle.tree.specs.declared.IssuedChain.{IssuedChain}
+use Rattle.tree.specs.declared.ProofTree.{ProofTree}
 use Rattle.tree.specs.Chain.{chain_of, rising_chain, empty_chain, ChainBelow, Spans, DrawnFrom}
 use Rattle.tree.proofs.Nodes.{held_ok, held_as}
 use Rattle.tree.proofs.Chains.{chain_length, spans_below, spans_chain}
@@ -73,23 +73,23 @@ copied_all s ns p w f g h =
 
 -- ---- numbered anew
 -- a copy's chain, whose identifiers were drawn after n were issued
-module _ (ns : List Node) (c : Chain) {n : ℕ} {a b : List ℕ} (r : IssuedChain) (p : Held ns n a) (q : Held (more ns (chain_of c)) r.len b) (d : DrawnFrom n r) (small : r.len ≤ most_identifiers) where
-  copy_spans : Spans r.chain n r.len
+module _ (ns : List Node) (c : Chain) {n m : ℕ} {a b : List ℕ} (r : Chain) (p : Held ns n a) (q : Held (more ns (chain_of c)) m b) (d : DrawnFrom n r m) (small : m ≤ most_identifiers) where
+  copy_spans : Spans r n m
   copy_spans = d small
 
-  pub copy_from : n ≤ r.len
+  pub copy_from : n ≤ m
   copy_from = omega (arith, copy_spans.ends)
 
-  pub copy_below : ChainBelow r.chain r.len
+  pub copy_below : ChainBelow r m
   copy_below = spans_below copy_spans
 
-  pub copy_length : length ns + length (chain_of c) ≡ r.len
+  pub copy_length : length ns + length (chain_of c) ≡ m
   copy_length = omega (arith, (held_ok q small).0, length-append ns (map (copied ns) (chain_of c)), length-map (chain_of c) (copied ns))
 
-  pub copy_chain : chain_of r.chain ≡ up_from (length (chain_of c)) (length ns)
+  pub copy_chain : chain_of r ≡ up_from (length (chain_of c)) (length ns)
   copy_chain =
       let e = (held_ok p (omega (arith, copy_from, small))).0 in
-      let k : r.chain.count ≡ length (chain_of c) = omega (arith, copy_spans.ends, copy_length, e) in
+      let k : r.count ≡ length (chain_of c) = omega (arith, copy_spans.ends, copy_length, e) in
       spans_chain copy_spans ∙ ap (λ (j : ℕ). up_from j n) k ∙ ap (up_from (length (chain_of c))) (sym e)
 
 abbrev three : List ℕ → List ℕ → List ℕ → Subtree
@@ -99,21 +99,21 @@ threes : {l l' m m' r r' : List ℕ} → l ≡ l' → m ≡ m' → r ≡ r' → 
 threes {l} {l'} {m} {m'} {r} {r'} e f g = ap (λ (v : List ℕ). three v m r) e ∙ ap (λ (v : List ℕ). three l' v r) f ∙ ap (three l' m') g
 
 -- what `copy_chain` does
-abbrev CopiesTo : Chain → ℕ → List ℕ → IssuedChain → List ℕ → Type 0
-CopiesTo c n a r b = DrawnFrom n r × Copies c n a r.len b
+abbrev CopiesTo : Chain → ProofTree → Chain → ProofTree → Type 0
+CopiesTo c t r u = DrawnFrom t.len r u.len × Copies c t.len t.cells u.len u.cells
 
-pub attached : (s : ProofSubtree) (ns : List Node) {n : ℕ} {a b c d : List ℕ} (l m r : IssuedChain) → Held ns n a → Within s (length ns)
-    → CopiesTo s.left n a l b → CopiesTo s.middle l.len b m c → CopiesTo s.right m.len c r d
-    → Attached ns s (record { subtree = record { left = l.chain; middle = m.chain; right = r.chain }; len = r.len }) d
+pub attached : (s : ProofSubtree) (ns : List Node) (t t₁ t₂ t₃ : ProofTree) (l m r : Chain) → HasNodes ns t → Within s (length ns)
+    → CopiesTo s.left t l t₁ → CopiesTo s.middle t₁ m t₂ → CopiesTo s.right t₂ r t₃
+    → Attached ns s (record { left = l; middle = m; right = r }) t₃
 unfolding subtree_of numbered
-attached s ns {n} l m r p w f g h =
+attached s ns t t₁ t₂ t₃ l m r p w f g h =
     record {
       nodes = copied_all s ns p w f.1 g.1 h.1;
       chains = λ small.
           let ends = (h.0 small).ends in
-          let small-m : m.len ≤ most_identifiers = omega (arith, ends, small) in
+          let small-m : t₂.len ≤ most_identifiers = omega (arith, ends, small) in
           let ends-m = (g.0 small-m).ends in
-          let small-l : l.len ≤ most_identifiers = omega (arith, ends-m, small-m) in
+          let small-l : t₁.len ≤ most_identifiers = omega (arith, ends-m, small-m) in
           let u = more ns (chain_of s.left) in
           let v = more u (chain_of s.middle) in
           let pl = f.1 ns p w.on_left in
@@ -145,11 +145,11 @@ unfolding subtree_of chain_of
 middle_only s start count l m r = rw (l, m, r) (refl, λ n h. record { on_left = omega arith; on_middle = h; on_right = omega arith })
 
 -- ---- linked below a leaf
-abbrev Links : Chain → ℕ → ℕ → ℕ → List ℕ → List ℕ → Type 0
-Links c y code len a b = (ms : List Node) (p : Place) → place_code p ≡ code → Held ms len a → (length ms ≤ most_identifiers → ChainBelow c (length ms)) → Held (link_chain ms y p (chain_of c)) len b
+abbrev Links : Chain → ℕ → ℕ → ProofTree → ProofTree → Type 0
+Links c y code t u = (ms : List Node) (p : Place) → place_code p ≡ code → HasNodes ms t → (length ms ≤ most_identifiers → ChainBelow c (length ms)) → HasNodes (link_chain ms y p (chain_of c)) u
 
-pub hung : (s : ProofSubtree) (ns : List Node) (y : ℕ) {len : ℕ} {a b c d : List ℕ} → Held ns len a → (length ns ≤ most_identifiers → Within s (length ns))
-    → Links s.left y 1 len a b → Links s.middle y 2 len b c → Links s.right y 3 len c d → Held (append_subtree_on_leaf ns y (subtree_of s)) len d
+pub hung : (s : ProofSubtree) (ns : List Node) (y : ℕ) {t₀ t₁ t₂ t₃ : ProofTree} → HasNodes ns t₀ → (length ns ≤ most_identifiers → Within s (length ns))
+    → Links s.left y 1 t₀ t₁ → Links s.middle y 2 t₁ t₂ → Links s.right y 3 t₂ t₃ → HasNodes (append_subtree_on_leaf ns y (subtree_of s)) t₃
 unfolding append_subtree_on_leaf subtree_of
 hung s ns y p w f g h =
     let t = link_chain ns y Left (chain_of s.left) in

@@ -4,6 +4,7 @@ use Rattle.definition.specs.Limits.{most_identifiers}
 use Rattle.limits.specs.Arrays.{item_cells}
 use Rattle.definition.specs.Lists.{up_from, concat_map, filter, Each, padded}
 use Rattle.definition.specs.Subtree.{Targeted, with_middle}
+use Rattle.subtree.specs.declared.Items as Rust
 
 pub record Item : Type 0 where
   pub target : ℕ
@@ -26,8 +27,12 @@ pub data ItemsHeld (rs : List Item) (n : ℕ) (a : List ℕ) (m : ℕ) : Type 0 
   rows : n ≤ most_identifiers → n ≤ m → length (filled rs) ≡ n → a ≡ padded item_cells (concat_map cells (filled rs)) → Each (λ (r : Item). r.start + r.count ≤ m) (filled rs) → ItemsHeld rs n a m
   too_many : most_identifiers < n → most_identifiers < m → ItemsHeld rs n a m
 
+-- the struct holds those rows
+abbrev pub HasItems : List Item → Rust.Items → ℕ → Type 0
+HasItems rs x m = ItemsHeld rs x.count x.cells m
+
 -- the rows are those of rs, and then those of the subtrees
-pub record Listing (rs : List Item) (more : List Targeted) (items nodes : ℕ) (a : List ℕ) : Type 0 where
+pub record Listing (rs : List Item) (more : List Targeted) (x : Rust.Items) (nodes : ℕ) : Type 0 where
   pub all : List Item
-  pub rows : ItemsHeld all items a nodes
+  pub rows : HasItems all x nodes
   pub are : map item_from all ≡ map item_from rs ++ more

@@ -4,22 +4,19 @@
 ghost use Rattle.std.specs.Prelude.{◌≡◌, List, [], ◌∷◌, ◌++◌, map, reverse, ℕ, ◌≤◌, ◌<◌, ◌+◌, ◌*◌, length, get_or, drop};
 ghost use Rattle.definition.specs.Limits.{most_identifiers};
 ghost use Rattle.limits.specs.Arrays.{item_fields};
-ghost use Rattle.arrays.specs.Listed.{Listed};
+ghost use Rattle.arrays.specs.Listed.{HasList};
 ghost use Rattle.definition.specs.Lists.{up_from};
 ghost use Rattle.definition.specs.Tree.{Node};
 ghost use Rattle.definition.specs.Subtree.{Subtree, Targeted, with_middle, flat, copied, append_subtree_on_leaf, push_subtree, append_copies, append_on, append_subtree, append_logic_rule_result};
 ghost use Rattle.definition.specs.TreeShape.{Treed, TreedThroughout};
-ghost use Rattle.tree.specs.Lay.{Held};
-ghost use Rattle.tree.specs.Chain.{chain_of, ChainBelow, Spans, DrawnFrom};
+ghost use Rattle.tree.specs.Lay.{HasNodes};
+ghost use Rattle.tree.specs.Chain.{chain_of, empty_chain, ChainBelow, Spans, DrawnFrom};
 ghost use Rattle.subtree.specs.Subtree.{subtree_of, Within, Chained, Attached, Left};
-ghost use Rattle.subtree.specs.Items.{Item, ItemsHeld, Listing};
+ghost use Rattle.subtree.specs.Items.{Listing};
 
-use arrays::{nth, push};
-use limits::{FULL, ITEM_FIELDS, Items, MOST_IDENTIFIERS, Nodes, Numbers, Waiting};
-use tree::{
-    Chain, IssuedChain, PLACE_LEFT, PLACE_MIDDLE, PLACE_RIGHT, ProofTreeNodeID, chain_at, extend,
-    formula_of, link_chain, spawner_of, takers, world_of,
-};
+use arrays::Numbers;
+use limits::{FULL, ITEM_CELLS, ITEM_FIELDS, MOST_IDENTIFIERS};
+use tree::{Chain, PLACE_LEFT, PLACE_MIDDLE, PLACE_RIGHT, ProofTree, ProofTreeNodeID};
 
 #[derive(Clone, Copy)]
 pub struct ProofSubtree {
@@ -28,20 +25,25 @@ pub struct ProofSubtree {
     pub right: Chain,
 }
 
-// How many nodes there are, and how many entries the list beside them has: of nodes that wait, or of subtrees. More nodes than there is room for: full.
-#[derive(Clone, Copy)]
-pub struct Counts {
-    pub nodes: usize,
-    pub listed: usize,
+impl ProofSubtree {
+    // One chain in the middle.
+    pub fn with_middle(middle: Chain) -> Self
+        ensures { (result.left ≡ empty_chain) × (result.middle ≡ middle) × (result.right ≡ empty_chain) }
+    {
+        ProofSubtree {
+            left: Chain::EMPTY,
+            middle,
+            right: Chain::EMPTY,
+        }
+    }
 }
 
 // The same chain from the other end.
 fn turned(c: Chain) -> Chain
     ensures { (chain_of result ≡ reverse (chain_of c)) × (result.start.0 ≡ c.start.0) × (result.count ≡ c.count) }
 {
-    let start = c.start;
     Chain {
-        start,
+        start: c.start,
         count: c.count,
         rising: !c.rising,
     }
@@ -51,284 +53,207 @@ fn turned(c: Chain) -> Chain
 fn with_middle_vertical_nodes(start: ProofTreeNodeID, count: u16) -> ProofSubtree
     ensures { (subtree_of result ≡ with_middle (up_from count start.0)) × ((m : ℕ) → start.0 + count ≤ m → Within result m) }
 {
-    let middle = Chain {
+    ProofSubtree::with_middle(Chain {
         start,
         count,
         rising: true,
-    };
-    ProofSubtree {
-        left: Chain::EMPTY,
-        middle,
-        right: Chain::EMPTY,
-    }
+    })
 }
 
 // How many nodes the subtree has.
 fn size(s: ProofSubtree) -> usize
     ensures { result ≡ length (flat (subtree_of s)) }
 {
-    let l = s.left;
-    let m = s.middle;
-    let r = s.right;
-    l.count as usize + m.count as usize + r.count as usize
+    s.left.count as usize + s.middle.count as usize + s.right.count as usize
 }
 
 // A copy of each node of the chain, in its order: the chain of the copies.
-fn copy_chain(nodes: &mut Nodes, len: usize, c: Chain) -> IssuedChain
-    ensures { DrawnFrom len result × ((ns : List Node) → Held ns len nodes.old → ChainBelow c (length ns) → Held (ns ++ map (copied ns) (chain_of c)) result.len nodes.new) }
+fn copy_chain(tree: &mut ProofTree, c: Chain) -> Chain
+    ensures { DrawnFrom tree.old.len result tree.new.len × ((ns : List Node) → HasNodes ns tree.old → ChainBelow c (length ns) → HasNodes (ns ++ map (copied ns) (chain_of c)) tree.new) }
 {
-    let n = c.count as usize;
-    let mut copies = IssuedChain {
-        chain: Chain::EMPTY,
-        len,
-    };
-    let mut k: usize = 0;
-    while k < n {
-        let x = chain_at(c, k);
-        let s = spawner_of(nodes, x);
-        let f = formula_of(nodes, x);
-        let w = world_of(nodes, x);
-        copies = extend(nodes, copies, s, f, w);
-        k += 1;
+    let mut copies = Chain::EMPTY;
+    for k in 0..c.count as usize {
+        let x = c.at(k);
+        let s = tree.spawner_of(x);
+        let f = tree.formula_of(x);
+        let w = tree.world_of(x);
+        copies = tree.extend(copies, s, f, w);
     }
     copies
 }
 
-// A subtree of identifiers that were drawn, and how many are issued with them.
-#[derive(Clone, Copy)]
-struct IssuedSubtree {
-    subtree: ProofSubtree,
-    len: usize,
-}
-
 // A copy of each node of the subtree, under identifiers drawn for it.
-fn attach_new_ids(nodes: &mut Nodes, len: usize, s: ProofSubtree) -> IssuedSubtree
-    ensures { (ns : List Node) → Held ns len nodes.old → Within s (length ns) → Attached ns s result nodes.new }
+fn attach_new_ids(tree: &mut ProofTree, s: ProofSubtree) -> ProofSubtree
+    ensures { (ns : List Node) → HasNodes ns tree.old → Within s (length ns) → Attached ns s result tree.new }
 {
-    let l = s.left;
-    let m = s.middle;
-    let r = s.right;
-    let a = copy_chain(nodes, len, l);
-    let b = copy_chain(nodes, a.len, m);
-    let c = copy_chain(nodes, b.len, r);
-    let left = a.chain;
-    let middle = b.chain;
-    let right = c.chain;
-    let subtree = ProofSubtree {
+    let left = copy_chain(tree, s.left);
+    let middle = copy_chain(tree, s.middle);
+    let right = copy_chain(tree, s.right);
+    ProofSubtree {
         left,
         middle,
         right,
-    };
-    IssuedSubtree {
-        subtree,
-        len: c.len,
     }
 }
 
 // The subtree becomes what stands below the leaf.
-fn append_subtree_on_leaf(nodes: &mut Nodes, len: usize, leaf: ProofTreeNodeID, s: ProofSubtree)
-    ensures { (ns : List Node) → Held ns len nodes.old → (length ns ≤ most_identifiers → Within s (length ns)) → Held (append_subtree_on_leaf ns leaf.0 (subtree_of s)) len nodes.new }
+fn append_subtree_on_leaf(tree: &mut ProofTree, leaf: ProofTreeNodeID, s: ProofSubtree)
+    ensures { (tree.new.len ≡ tree.old.len)
+        × ((ns : List Node) → HasNodes ns tree.old → (length ns ≤ most_identifiers → Within s (length ns)) → HasNodes (append_subtree_on_leaf ns leaf.0 (subtree_of s)) tree.new) }
 {
-    let l = s.left;
-    let m = s.middle;
-    let r = s.right;
-    link_chain(nodes, len, leaf, PLACE_LEFT, l);
-    link_chain(nodes, len, leaf, PLACE_MIDDLE, m);
-    link_chain(nodes, len, leaf, PLACE_RIGHT, r);
+    tree.link_chain(leaf, PLACE_LEFT, s.left);
+    tree.link_chain(leaf, PLACE_MIDDLE, s.middle);
+    tree.link_chain(leaf, PLACE_RIGHT, s.right);
 }
 
 // The chain's identifiers, top first, at the end of a list.
-fn push_chain(out: &mut Numbers, start: usize, c: Chain) -> usize
-    ensures { (q : List ℕ) → Listed q start out.old → ChainBelow c most_identifiers → Listed (q ++ chain_of c) result out.new }
+fn push_chain(out: &mut Numbers, c: Chain)
+    ensures { (q : List ℕ) → HasList q out.old → ChainBelow c most_identifiers → HasList (q ++ chain_of c) out.new }
 {
-    let n = c.count as usize;
-    let mut m = start;
-    let mut k: usize = 0;
-    while k < n {
-        let x = chain_at(c, k);
-        m = push(out, m, x.0);
-        k += 1;
+    for k in 0..c.count as usize {
+        out.push(c.at(k).0);
     }
-    m
 }
 
 // The subtree's identifiers at the end of the queue, each chain from the bottom up.
-fn push_subtree(waiting: &mut Waiting, n: usize, s: ProofSubtree) -> usize
-    ensures { (q : List ℕ) → Listed q n waiting.old → Within s most_identifiers → Listed (push_subtree q (subtree_of s)) result waiting.new }
+fn push_subtree(waiting: &mut Numbers, s: ProofSubtree)
+    ensures { (q : List ℕ) → HasList q waiting.old → Within s most_identifiers → HasList (push_subtree q (subtree_of s)) waiting.new }
 {
-    let l = s.left;
-    let m = s.middle;
-    let r = s.right;
-    let a = push_chain(waiting, n, turned(l));
-    let b = push_chain(waiting, a, turned(m));
-    push_chain(waiting, b, turned(r))
+    push_chain(waiting, turned(s.left));
+    push_chain(waiting, turned(s.middle));
+    push_chain(waiting, turned(s.right));
 }
 
 // A copy of the subtree below one leaf.
-fn append_copy(
-    nodes: &mut Nodes,
-    len: usize,
-    leaf: ProofTreeNodeID,
-    s: ProofSubtree,
-    waiting: &mut Waiting,
-    n: usize,
-) -> Counts
-    ensures { (ns : List Node) (q : List ℕ) → Held ns len nodes.old → (len ≤ most_identifiers → Listed q n waiting.old) → Within s (length ns)
-        → Left (append_copies ns q (leaf.0 ∷ []) (subtree_of s)) result nodes.new waiting.new }
+fn append_copy(tree: &mut ProofTree, leaf: ProofTreeNodeID, s: ProofSubtree, waiting: &mut Numbers)
+    ensures { (ns : List Node) (q : List ℕ) → HasNodes ns tree.old → (tree.old.len ≤ most_identifiers → HasList q waiting.old) → Within s (length ns)
+        → Left (append_copies ns q (leaf.0 ∷ []) (subtree_of s)) tree.new waiting.new }
 {
-    let copied = attach_new_ids(nodes, len, s);
-    let copy = copied.subtree;
-    append_subtree_on_leaf(nodes, copied.len, leaf, copy);
-    let w = push_subtree(waiting, n, copy);
-    Counts {
-        nodes: copied.len,
-        listed: w,
-    }
+    let copy = attach_new_ids(tree, s);
+    append_subtree_on_leaf(tree, leaf, copy);
+    push_subtree(waiting, copy);
 }
 
 // A copy of the subtree below each of the leaves, from the given one on.
 fn append_copies(
-    nodes: &mut Nodes,
-    len: usize,
+    tree: &mut ProofTree,
     leaves: &Numbers,
-    m: usize,
     from: usize,
     s: ProofSubtree,
-    waiting: &mut Waiting,
-    n: usize,
-) -> Counts
-    ensures { (ns : List Node) (q ls : List ℕ) → Held ns len nodes.old → (len ≤ most_identifiers → Listed q n waiting.old) → Within s (length ns)
-        → Listed ls m leaves.now → m ≤ most_identifiers → Left (append_copies ns q (drop from ls) (subtree_of s)) result nodes.new waiting.new }
+    waiting: &mut Numbers,
+)
+    ensures { (ns : List Node) (q ls : List ℕ) → HasNodes ns tree.old → (tree.old.len ≤ most_identifiers → HasList q waiting.old) → Within s (length ns)
+        → HasList ls leaves.now → leaves.now.len ≤ most_identifiers → Left (append_copies ns q (drop from ls) (subtree_of s)) tree.new waiting.new }
 {
-    let mut here = Counts {
-        nodes: len,
-        listed: n,
-    };
-    let mut k = from;
-    while k < m {
-        let leaf = ProofTreeNodeID(nth(leaves, k));
-        here = append_copy(nodes, here.nodes, leaf, s, waiting, here.listed);
-        k += 1;
+    for k in from..leaves.len {
+        append_copy(tree, ProofTreeNodeID(leaves.nth(k)), s, waiting);
     }
-    here
 }
 
 // Below the first of the leaves the subtree, below each further one a copy.
-fn append_on(
-    nodes: &mut Nodes,
-    len: usize,
-    leaves: &Numbers,
-    m: usize,
-    s: ProofSubtree,
-    waiting: &mut Waiting,
-    n: usize,
-) -> Counts
-    ensures { (ns : List Node) (q ls : List ℕ) → Held ns len nodes.old → (len ≤ most_identifiers → Listed q n waiting.old) → Within s (length ns)
-        → Listed ls m leaves.now → m ≤ most_identifiers → Left (append_on ns q ls (subtree_of s)) result nodes.new waiting.new }
+fn append_on(tree: &mut ProofTree, leaves: &Numbers, s: ProofSubtree, waiting: &mut Numbers)
+    ensures { (ns : List Node) (q ls : List ℕ) → HasNodes ns tree.old → (tree.old.len ≤ most_identifiers → HasList q waiting.old) → Within s (length ns)
+        → HasList ls leaves.now → leaves.now.len ≤ most_identifiers → Left (append_on ns q ls (subtree_of s)) tree.new waiting.new }
 {
-    let w = push_subtree(waiting, n, s);
-    if m == 0 {
-        return Counts {
-            nodes: len,
-            listed: w,
-        };
+    push_subtree(waiting, s);
+    if leaves.len == 0 {
+        return;
     }
-    let leaf = ProofTreeNodeID(nth(leaves, 0));
-    append_subtree_on_leaf(nodes, len, leaf, s);
-    append_copies(nodes, len, leaves, m, 1, s, waiting, w)
+    append_subtree_on_leaf(tree, ProofTreeNodeID(leaves.nth(0)), s);
+    append_copies(tree, leaves, 1, s, waiting);
 }
 
-// The subtree, below each leaf whose path holds the target and has no contradictory node. More nodes than there is room for: full.
+// The subtree, below each leaf whose path holds the target and has no contradictory node.
 pub fn append_subtree(
-    nodes: &mut Nodes,
-    len: usize,
+    tree: &mut ProofTree,
     target: ProofTreeNodeID,
     s: ProofSubtree,
-    waiting: &mut Waiting,
-    n: usize,
-) -> Counts
-    ensures { (ns : List Node) (q : List ℕ) (t : Subtree) → Held ns len nodes.old → (len ≤ most_identifiers → Listed q n waiting.old) → (length ns ≤ most_identifiers → Chained s t (length ns))
-        → (length ns ≤ most_identifiers → Treed ns) → Left (append_subtree ns q target.0 t) result nodes.new waiting.new }
+    waiting: &mut Numbers,
+)
+    ensures { (ns : List Node) (q : List ℕ) (t : Subtree) → HasNodes ns tree.old → (tree.old.len ≤ most_identifiers → HasList q waiting.old) → (length ns ≤ most_identifiers → Chained s t (length ns))
+        → (length ns ≤ most_identifiers → Treed ns) → Left (append_subtree ns q target.0 t) tree.new waiting.new }
 {
-    let as_it_was = Counts {
-        nodes: len,
-        listed: n,
-    };
-    if MOST_IDENTIFIERS < len {
-        return as_it_was;
+    if MOST_IDENTIFIERS < tree.len {
+        return;
     }
     if size(s) == 0 {
-        return as_it_was;
+        return;
     }
-    let mut found = [0u16; MOST_IDENTIFIERS];
-    let m = takers(nodes, len, target, &mut found);
-    if MOST_IDENTIFIERS < m {
-        return Counts {
-            nodes: FULL,
-            listed: n,
-        };
+    let mut found = Numbers::new();
+    tree.takers(target, &mut found);
+    if MOST_IDENTIFIERS < found.len {
+        tree.fill_up();
+        return;
     }
-    append_on(nodes, len, &found, m, s, waiting, n)
+    append_on(tree, &found, s, waiting);
 }
 
-// Number j of row k of the table of subtrees.
-fn item_field(items: &Items, k: usize, j: usize) -> u16
-    ensures { k < most_identifiers → j < item_fields → result ≡ get_or items.now (k * item_fields + j) 0 }
-{
-    if MOST_IDENTIFIERS <= k {
-        return 0;
-    }
-    if ITEM_FIELDS <= j {
-        return 0;
-    }
-    items[k * ITEM_FIELDS + j]
+// Subtrees that are to be placed, a row of ITEM_FIELDS numbers each, and how many there are. A count above MOST_IDENTIFIERS says that there are too many, and nothing of the rows.
+#[derive(Drop)]
+pub struct Items {
+    pub cells: [u16; ITEM_CELLS],
+    pub count: usize,
 }
 
-// One subtree more: a middle chain of identifiers above all that are there. None: nothing is stored. FULL where there is no room.
-pub fn push_item(items: &mut Items, count: usize, target: ProofTreeNodeID, c: Chain) -> usize
-    ensures { (rs : List Item) (lo hi : ℕ) → ItemsHeld rs count items.old lo → Spans c lo hi
-        → ItemsHeld (rs ++ (record { target = target.0; start = lo; count = c.count } ∷ [])) result items.new hi }
-{
-    if c.count == 0 {
-        return count;
+impl Items {
+    ghost use Rattle.subtree.specs.Items.{Item, HasItems};
+
+    // No subtree.
+    pub fn new() -> Self
+        ensures { (m : ℕ) → HasItems [] result m }
+    {
+        Items {
+            cells: [0; ITEM_CELLS],
+            count: 0,
+        }
     }
-    if MOST_IDENTIFIERS <= count {
-        return FULL;
+
+    // Number j of row k.
+    fn field(&self, k: usize, j: usize) -> u16
+        ensures { k < most_identifiers → j < item_fields → result ≡ get_or self.now.cells (k * item_fields + j) 0 }
+    {
+        if MOST_IDENTIFIERS <= k {
+            return 0;
+        }
+        if ITEM_FIELDS <= j {
+            return 0;
+        }
+        self.cells[k * ITEM_FIELDS + j]
     }
-    let start = c.start;
-    items[count * ITEM_FIELDS] = target.0;
-    items[count * ITEM_FIELDS + 1] = start.0;
-    items[count * ITEM_FIELDS + 2] = c.count;
-    count + 1
+
+    // One subtree more: a middle chain of identifiers above all that are there. None: nothing is stored. Too many where there is no room.
+    pub fn push(&mut self, target: ProofTreeNodeID, c: Chain)
+        ensures { (rs : List Item) (lo hi : ℕ) → HasItems rs self.old lo → Spans c lo hi
+            → HasItems (rs ++ (record { target = target.0; start = lo; count = c.count } ∷ [])) self.new hi }
+    {
+        if c.count == 0 {
+            return;
+        }
+        if MOST_IDENTIFIERS <= self.count {
+            self.count = FULL;
+            return;
+        }
+        let at = self.count * ITEM_FIELDS;
+        self.cells[at] = target.0;
+        self.cells[at + 1] = c.start.0;
+        self.cells[at + 2] = c.count;
+        self.count += 1;
+    }
 }
 
 // The subtrees of a joined result, placed and queued one after the other.
-pub fn append_logic_rule_result(
-    nodes: &mut Nodes,
-    made: Counts,
-    items: &Items,
-    waiting: &mut Waiting,
-    n: usize,
-) -> Counts
-    ensures { (ns : List Node) (q : List ℕ) (is : List Targeted) → Held ns made.nodes nodes.old → (made.nodes ≤ most_identifiers → Listed q n waiting.old)
-        → (made.nodes ≤ most_identifiers → Listing [] is made.listed (length ns) items.now) → TreedThroughout ns q is
-        → Left (append_logic_rule_result ns q is) result nodes.new waiting.new }
+pub fn append_logic_rule_result(tree: &mut ProofTree, items: &Items, waiting: &mut Numbers)
+    ensures { (ns : List Node) (q : List ℕ) (is : List Targeted) → HasNodes ns tree.old → (tree.old.len ≤ most_identifiers → HasList q waiting.old)
+        → (tree.old.len ≤ most_identifiers → Listing [] is items.now (length ns)) → TreedThroughout ns q is
+        → Left (append_logic_rule_result ns q is) tree.new waiting.new }
 {
-    let mut here = Counts {
-        nodes: made.nodes,
-        listed: n,
-    };
-    if MOST_IDENTIFIERS < made.nodes {
-        return here;
+    if MOST_IDENTIFIERS < tree.len {
+        return;
     }
-    let count = made.listed;
-    let mut k: usize = 0;
-    while k < count {
-        let target = ProofTreeNodeID(item_field(items, k, 0));
-        let start = ProofTreeNodeID(item_field(items, k, 1));
-        let s = with_middle_vertical_nodes(start, item_field(items, k, 2));
-        here = append_subtree(nodes, here.nodes, target, s, waiting, here.listed);
-        k += 1;
+    for k in 0..items.count {
+        let target = ProofTreeNodeID(items.field(k, 0));
+        let start = ProofTreeNodeID(items.field(k, 1));
+        let s = with_middle_vertical_nodes(start, items.field(k, 2));
+        append_subtree(tree, target, s, waiting);
     }
-    here
 }

@@ -2,11 +2,11 @@
 use Prim.Native.Nat.{ℕ, zero, suc, ◌+◌, ◌*◌, ◌-◌, ◌^◌, ◌≤◌, ◌<◌}
 use mathlib.Core.Path.{◌≡◌, refl, sym, ap, ◌∙◌}
 use mathlib.Core.Bool.{Bool, false, cond}
-use mathlib.Core.List.{List, [], ◌∷◌, map}
+use mathlib.Core.List.{List, [], ◌∷◌, ◌++◌, map}
 use native.Mathlib.Omega.{arith}
 use native.Mathlib.Numerals.{add-one}
-use native.Mathlib.Nat.{pow-suc, pow-le-pow_right}
-use lib.ListN.{length, get_or, set, drop, length-map, drop_of_length-le, get_or-map, get_or-eq_default}
+use native.Mathlib.Nat.{pow-suc}
+use lib.ListN.{length, get_or, set, take, drop, replicate, length-take, length-replicate, length-map, drop_of_length-le, get_or-map, get_or-eq_default}
 use lib.Seq.{drop-cons}
 use Rattle.arrays.proofs.Laws.{get_or_padded}
 use Rattle.definition.specs.Limits.{graph_width, edge_tray_length}
@@ -16,6 +16,11 @@ use Rattle.definition.specs.Graph.{Graph, edge}
 use Rattle.definition.specs.Trays.{row_number, over}
 use Rattle.graph.specs.Drawn.{Drawn}
 use Rattle.slices.proofs.Writing.{Writing, written_none, writing_start, writing_one, writing_end}
+
+-- ---- zeros over the first n numbers
+pub zeros_over : (t : List ℕ) (n : ℕ) {f : List ℕ} → n ≤ length t → f ≡ replicate (length (take n t)) 0 → f ++ drop n t ≡ over (replicate n 0) t
+unfolding over
+zeros_over t n r e = let k : length (take n t) ≡ n = simp length-take (omega arith) in rw (e, k, length-replicate) refl
 
 -- ---- one row
 abbrev pub row_of : Graph → ℕ → List Bool
@@ -40,12 +45,6 @@ row_next g u {v} {n} {b} h p q r =
     let m = p ∙ ap (λ (k : ℕ). row_number (drop k (row_of g u))) (sym z) in
     let d = r ∙ ap (λ (x : Bool). cond x 1 0) q in
     omega (arith, s, m, d)
-
-pub row_end : (row : List Bool) {v n : ℕ} → v ≤ 0 → n ≡ row_number (drop v row) → n ≡ row_number row
-row_end row {v} h e = let z : v ≡ 0 = omega arith in e ∙ ap (λ (k : ℕ). row_number (drop k row)) z
-
-pub number_low : (v : ℕ) {n : ℕ} → n < 2 ^ (graph_width - v) → n < 2 ^ graph_width
-number_low v h = let l : 2 ^ (graph_width - v) ≤ 2 ^ graph_width = pow-le-pow_right {n = 2} (omega arith) {i = graph_width - v} {j = graph_width} (omega arith) in omega (arith, h, l)
 
 pub number_next : (v : ℕ) {n b : ℕ} → 0 < v → v ≤ graph_width → n < 2 ^ (graph_width - v) → b ≤ 1 → n * 2 + b < 2 ^ (graph_width - (v - 1))
 number_next v h k l m =

@@ -16,11 +16,10 @@ use Rattle.definition.proofs.Basics.Lists.{from_get}
 use Rattle.definition.proofs.Tree.Nodes.{length_chain}
 use Rattle.definition.proofs.Basics.Identifiers.{length_from}
 use Rattle.tree.specs.declared.Chain.{Chain}
-use Rattle.tree.specs.declared.Issued.{Issued}
-use Rattle.tree.specs.declared.IssuedChain.{IssuedChain}
 use Rattle.tree.specs.Chain.{chain_of, empty_chain, ChainBelow, Spans, DrawnFrom}
 use Rattle.tree.specs.Sequence.{Draws}
-use Rattle.tree.specs.Lay.{place_code, Held}
+use Rattle.tree.specs.declared.ProofTree.{ProofTree}
+use Rattle.tree.specs.Lay.{place_code, Held, HasNodes}
 use Rattle.tree.proofs.Sequence.{drawn_next}
 use Rattle.tree.proofs.Nodes.{held_ok, held_long, held_as}
 
@@ -70,38 +69,24 @@ module _ {c : Chain} {lo hi : ℕ} (s : Spans c lo hi) where
       go (inl z) = ap (λ (n : ℕ). up_from n c.start.0) z ∙ sym (ap (λ (n : ℕ). up_from n lo) z)
       go (inr e) = ap (up_from c.count) e
 
-  -- one more: the first, or a further one
-  pub spans_first : (d : Chain) → d.rising ≡ true → d.count ≡ 1 → d.start.0 ≡ hi → c.count ≡ 0 → Spans d lo (hi + 1)
-  spans_first d r n e z = record { rises = r; ends = omega (arith, n, z, s.ends); low = omega (arith, e, z, s.ends); begins = inr (omega (arith, e, z, s.ends)) }
-
-  pub spans_next : (d : Chain) → d.rising ≡ true → d.count ≡ c.count + 1 → d.start.0 ≡ c.start.0 → (c.count ≡ 0 → ⊥) → Spans d lo (hi + 1)
-  spans_next d r n e z = record { rises = r; ends = omega (arith, n, s.ends); low = omega (arith, e, s.low); begins = go s.begins }
-    where
-      go : (c.count ≡ 0) ⊎ (c.start.0 ≡ lo) → (d.count ≡ 0) ⊎ (d.start.0 ≡ lo)
-      go (inl q) = absurd (z q)
-      go (inr q) = inr (e ∙ q)
-
-pub drawn_none : (n : ℕ) → DrawnFrom n (record { chain = empty_chain; len = n })
+pub drawn_none : (n : ℕ) → DrawnFrom n empty_chain n
 drawn_none n h = record { rises = refl; ends = omega arith; low = omega arith; begins = inl refl }
 
--- the chain d of `here` and the identifier drawn after it
-pub drawn_more : {here : IssuedChain} {x : Issued} {lo : ℕ} (d : Chain) → Draws here.len x → DrawnFrom lo here
-    → ((k : ℕ) → x.id.0 < most_identifiers → Spans here.chain k x.id.0 → Spans d k (x.id.0 + 1)) → DrawnFrom lo (record { chain = d; len = x.len })
-drawn_more {here} {x} {lo} d draws before extends small =
-    let n = drawn_next draws small in
-    subst (Spans d lo) (ap (λ (k : ℕ). k + 1) n.id ∙ sym n.count)
-    (extends lo (omega (arith, n.id, n.room)) (subst (Spans here.chain lo) (sym n.id) (before (omega (arith, n.room)))))
+-- the chain d of c and the identifier drawn after it
+pub drawn_more : {c : Chain} {n m x lo : ℕ} (d : Chain) → Draws n m x → DrawnFrom lo c n
+    → ((k : ℕ) → x < most_identifiers → Spans c k x → Spans d k (x + 1)) → DrawnFrom lo d m
+drawn_more {c} {n} {m} {x} {lo} d draws before extends small =
+    let next = drawn_next draws small in
+    subst (Spans d lo) (ap (λ (k : ℕ). k + 1) next.id ∙ sym next.count)
+    (extends lo (omega (arith, next.id, next.room)) (subst (Spans c lo) (sym next.id) (before (omega (arith, next.room)))))
 
 -- ---- the loop of `link_chain`: the rest of the chain goes below `above`, its first at the place whose code is `at`
-pub record Linking (goal : List Node) (len : ℕ) (a : List ℕ) (above at : ℕ) (rest : List ℕ) : Type 0 where
+pub record Linking (goal : List Node) (t : ProofTree) (above at : ℕ) (rest : List ℕ) : Type 0 where
   pub nodes : List Node
   pub place : Place
-  pub has : Held nodes len a
+  pub has : HasNodes nodes t
   pub code : place_code place ≡ at
   pub same : link_chain nodes above place rest ≡ goal
-
-pub linking_start : {ns : List Node} {len : ℕ} {a : List ℕ} {at : ℕ} (y : ℕ) (p : Place) (xs : List ℕ) → place_code p ≡ at → Held ns len a → Linking (link_chain ns y p xs) len a y at xs
-linking_start {ns} y p xs e h = record { nodes = ns; place = p; has = h; code = e; same = refl }
 
 chain_cons : (t : List Node) (y : ℕ) (p : Place) (x : ℕ) (xs : List ℕ) → link_chain t y p (x ∷ xs) ≡ link_chain (link t y p x) x Middle xs
 unfolding link_chain
@@ -111,27 +96,27 @@ chain_nil : (t : List Node) (y : ℕ) (p : Place) → link_chain t y p [] ≡ t
 unfolding link_chain
 chain_nil t y p = refl
 
-module _ {goal : List Node} {len : ℕ} {a : List ℕ} {above at : ℕ} (c : Chain) (k : ℕ) (l : Linking goal len a above at (drop k (chain_of c))) where
-  pub linking_next : {b : List ℕ} (x : ℕ) → k < c.count → x ≡ get_or (chain_of c) k 0 →
-      ((ns : List Node) (p : Place) → place_code p ≡ at → Held ns len a → Held (link ns above p x) len b) →
-      Linking goal len b x 2 (drop (k + 1) (chain_of c))
+module _ {goal : List Node} {t : ProofTree} {above at : ℕ} (c : Chain) (k : ℕ) (l : Linking goal t above at (drop k (chain_of c))) where
+  pub linking_next : {u : ProofTree} (x : ℕ) → k < c.count → x ≡ get_or (chain_of c) k 0 →
+      ((ns : List Node) (p : Place) → place_code p ≡ at → HasNodes ns t → HasNodes (link ns above p x) u) →
+      Linking goal u x 2 (drop (k + 1) (chain_of c))
   linking_next x h e f =
       let xs = chain_of c in
-      let t = link l.nodes above l.place x in
+      let ms = link l.nodes above l.place x in
       record {
-        nodes = t;
+        nodes = ms;
         place = Middle;
         has = f l.nodes l.place l.code l.has;
         code = refl;
         same =
-            ap (λ (j : ℕ). link_chain t x Middle (drop j xs)) (add-one k)
+            ap (λ (j : ℕ). link_chain ms x Middle (drop j xs)) (add-one k)
             ∙ sym (chain_cons l.nodes above l.place x (drop (suc k) xs))
             ∙ ap (λ (z : ℕ). link_chain l.nodes above l.place (z ∷ drop (suc k) xs)) e
             ∙ ap (link_chain l.nodes above l.place) (sym (drop-cons xs k 0 (omega (arith, chain_length c))))
             ∙ l.same;
       }
 
-  pub linking_end : c.count ≤ k → Held goal len a
+  pub linking_end : c.count ≤ k → HasNodes goal t
   linking_end h =
       held_as goal
       (sym (chain_nil l.nodes above l.place)

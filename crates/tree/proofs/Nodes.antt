@@ -1,8 +1,8 @@
 -- What each function reads or does of the nodes that the table holds.
 use Prim.Native.Nat.{ℕ, suc, ◌+◌, ◌*◌, ◌<◌, ◌≤◌}
 use mathlib.Core.Path.{◌≡◌, refl, sym, ap, ◌∙◌, subst}
-use mathlib.Core.Bool.{Bool, true, false, cond, not}
-use mathlib.Core.List.{List, [], ◌∷◌, ◌++◌, append-nil}
+use mathlib.Core.Bool.{Bool, not}
+use mathlib.Core.List.{List, [], ◌∷◌, ◌++◌}
 use native.Mathlib.Omega.{arith}
 use native.Mathlib.Decide.{dec_le}
 use lib.ListN.{length, set, replicate, length-append}
@@ -11,30 +11,15 @@ use borrow.Author.Tests.{le-leb, lt-leb}
 use Rattle.definition.specs.Limits.{most_identifiers}
 use Rattle.limits.specs.Arrays.{node_fields, node_cells}
 use Rattle.definition.specs.Records.{nobody, is_nobody}
-use Rattle.definition.specs.Tree.{Node, Children, Place, Root, Left, Middle, Right, Unplaced, node_at, new_node, set_child, change, placed_below, with_child, is_contradictory, link, is_leaf}
+use Rattle.definition.specs.Tree.{Node, Place, Root, Left, Middle, Right, Unplaced, node_at, new_node, set_child, change, placed_below, with_child, is_contradictory, link}
 use Rattle.definition.proofs.Tree.Nodes.{blank, length_change}
-use Rattle.tree.specs.Lay.{place_code, row, lay, Lays, Held, held, too_many}
-use Rattle.tree.specs.Sequence.{id_at, count_after}
+use Rattle.tree.specs.declared.ProofTree.{ProofTree}
+use Rattle.tree.specs.Lay.{place_code, row, lay, Lays, Held, held, too_many, HasNodes}
+use Rattle.tree.specs.Sequence.{Draws}
 use Rattle.tree.proofs.Sequence.{id_next, count_full, count_more}
 use Rattle.tree.proofs.TableRows.{lay_set, lay_same, lay_blank}
 
--- ---- leaves
-module _ (l m r : ℕ) {x : Bool} (ex : x ≡ is_nobody l) where
-  abbrev three : Children
-  three = record { left = l; middle = m; right = r }
-
-  pub none_yes : {y z : Bool} → x ≡ true → y ≡ is_nobody m → y ≡ true → z ≡ is_nobody r → z ≡ is_leaf three
-  unfolding is_leaf
-  none_yes tx ey ty ez = rw (← ex, tx, ← ey, ty, ← ez) refl
-
-  pub none_middle : {y : Bool} → x ≡ true → y ≡ is_nobody m → y ≡ false → y ≡ is_leaf three
-  unfolding is_leaf
-  none_middle tx ey ty = rw (← ex, tx, ← ey, ty) refl
-
-  pub none_left : x ≡ false → x ≡ is_leaf three
-  unfolding is_leaf
-  none_left tx = rw (← ex, tx) refl
-
+-- ---- marks
 pub marked : (n : Node) {x : Bool} (k : ℕ) → k ≡ n.contrarian → x ≡ is_nobody k → not x ≡ is_contradictory n
 unfolding is_contradictory
 marked n {x} k e h = rw (h, e) refl
@@ -72,12 +57,6 @@ change_out : (ns : List Node) (x : ℕ) (f : Node → Node) → length ns ≤ x 
 change_out ns x f h = set_out ns x (f (node_at ns x)) h
 
 module _ {ns : List Node} {len : ℕ} {a : List ℕ} (x : ℕ) (f : Node → Node) (p : Held ns len a) where
-  pub put_full : most_identifiers < len → Held (change ns x f) len a
-  put_full h = held_long (change ns x f) p h (omega (arith, length_change ns x f))
-
-  pub put_out : len ≤ most_identifiers → len ≤ x → Held (change ns x f) len a
-  put_out h g = held_same (change ns x f) p (sym (length_change ns x f)) (λ b. ap lay (sym (change_out ns x f (omega (arith, (held_ok p h).0)))))
-
   module _ (j v : ℕ) (r : (n : Node) → row (f n) ≡ set (row n) j v) where
     pub put_none : node_fields ≤ j → Held (change ns x f) len a
     put_none h =
@@ -139,56 +118,52 @@ abbrev pub with_right : ℕ → Node → Node
 with_right v n = node n.parent n.place n.world n.formula n.spawner n.contrarian n.children.left n.children.middle v
 
 -- what `put_field` does
-abbrev pub Puts : ℕ → List ℕ → List ℕ → ℕ → ℕ → ℕ → Type 0
-Puts len a b x j v = (ns : List Node) (f : Node → Node) → ((n : Node) → row (f n) ≡ set (row n) j v) → Held ns len a → Held (change ns x f) len b
+abbrev pub Puts : ProofTree → ProofTree → ℕ → ℕ → ℕ → Type 0
+Puts t u x j v = (u.len ≡ t.len) × ((ns : List Node) (f : Node → Node) → ((n : Node) → row (f n) ≡ set (row n) j v) → HasNodes ns t → HasNodes (change ns x f) u)
 
 -- ---- a new node
 new_over : {ns : List Node} {len : ℕ} {a b : List ℕ} (n : Node) → most_identifiers ≤ len → Held ns len a → Held (ns ++ (n ∷ [])) (suc most_identifiers) b
 new_over {ns} n h (held b e q) = too_many (omega arith) (omega (arith, length-append ns (n ∷ [])))
 new_over {ns} n h (too_many b e) = too_many (omega arith) (omega (arith, length-append ns (n ∷ [])))
 
-new_filled : (ns : List Node) {len m : ℕ} {a b c d : List ℕ} (s f w : ℕ) → m ≡ len + 1 → len < most_identifiers → Puts m a b len 2 w → Puts m b c len 3 f → Puts m c d len 4 s →
-    Held ns len a → Held (ns ++ (new_node s f w ∷ [])) m d
-new_filled ns {len} {m} {a} s f w z h g2 g3 g4 (held i e q) =
+new_filled : (ns : List Node) {t u b c d : ProofTree} {s f w : ℕ} → u.len ≡ t.len + 1 → u.cells ≡ t.cells → t.len < most_identifiers → Puts u b t.len 2 w → Puts b c t.len 3 f → Puts c d t.len 4 s →
+    HasNodes ns t → HasNodes (ns ++ (new_node s f w ∷ [])) d
+new_filled ns {t} {u} {b} {c} {d} {s} {f} {w} z same h g2 g3 g4 (held i e q) =
     let more = ns ++ (blank ∷ []) in
-    let start : Held more m a = held (omega arith) (omega (arith, length-append ns (blank ∷ []))) (q ∙ lay_blank ns (omega arith)) in
+    let start : HasNodes more u = held (omega arith) (omega (arith, length-append ns (blank ∷ []))) (same ∙ q ∙ lay_blank ns (omega arith)) in
     held_as (ns ++ (new_node s f w ∷ []))
-    (changes_one more len (with_world w) (with_formula f ∷ with_spawner s ∷ [])
-    ∙ set_at ns blank [] (after (with_world w ∷ with_formula f ∷ with_spawner s ∷ []) (node_at more len)) len e
-    ∙ ap (λ (n : Node). ns ++ (after (with_world w ∷ with_formula f ∷ with_spawner s ∷ []) n ∷ [])) (get_or_at ns blank [] blank len e))
-    (g4 _ (with_spawner s) (λ n. refl) (g3 _ (with_formula f) (λ n. refl) (g2 more (with_world w) (λ n. refl) start)))
-new_filled ns s f w z h g2 g3 g4 (too_many i e) = absurd (omega arith)
+    (changes_one more t.len (with_world w) (with_formula f ∷ with_spawner s ∷ [])
+    ∙ set_at ns blank [] (after (with_world w ∷ with_formula f ∷ with_spawner s ∷ []) (node_at more t.len)) t.len e
+    ∙ ap (λ (n : Node). ns ++ (after (with_world w ∷ with_formula f ∷ with_spawner s ∷ []) n ∷ [])) (get_or_at ns blank [] blank t.len e))
+    (g4.1 _ (with_spawner s) (λ n. refl) (g3.1 _ (with_formula f) (λ n. refl) (g2.1 more (with_world w) (λ n. refl) start)))
+new_filled ns z same h g2 g3 g4 (too_many i e) = absurd (omega arith)
 
 -- with the identifier that is drawn, where there is room and where there is none
-pub new_drawn : (ns : List Node) {len m x : ℕ} {a b c d : List ℕ} (s f w : ℕ) → x ≡ id_at len → m ≡ count_after len → Puts m a b x 2 w → Puts m b c x 3 f → Puts m c d x 4 s →
-    Held ns len a → Held (ns ++ (new_node s f w ∷ [])) m d
-new_drawn ns {len} {m} {x} {a} {b} {c} {d} s f w i e g2 g3 g4 p = elim (dec_le most_identifiers len) [
-  | yes h ↦ subst (λ (k : ℕ). Held (ns ++ (new_node s f w ∷ [])) k d) (count_full len (sym (le-leb most_identifiers len h)) refl ∙ sym e) (new_over (new_node s f w) h p)
+pub new_drawn : (ns : List Node) {t u b c d : ProofTree} {x s f w : ℕ} → Draws t.len u.len x → u.cells ≡ t.cells → Puts u b x 2 w → Puts b c x 3 f → Puts c d x 4 s →
+    HasNodes ns t → HasNodes (ns ++ (new_node s f w ∷ [])) d
+new_drawn ns {t} {u} {b} {c} {d} {x} {s} {f} {w} draws same g2 g3 g4 p = elim (dec_le most_identifiers t.len) [
+  | yes h ↦
+      subst (λ (k : ℕ). Held (ns ++ (new_node s f w ∷ [])) k d.cells)
+      (count_full t.len (sym (le-leb most_identifiers t.len h)) refl ∙ sym (g4.0 ∙ g3.0 ∙ g2.0 ∙ draws.count))
+      (new_over (new_node s f w) h p)
   | no h ↦
-      let room = sym (lt-leb most_identifiers len (omega arith)) in
-      let at : x ≡ len = i ∙ sym (id_next len room refl) in
-      new_filled ns s f w (e ∙ sym (count_more len room refl)) (omega arith) (subst (λ (k : ℕ). Puts m a b k 2 w) at g2) (subst (λ (k : ℕ). Puts m b c k 3 f) at g3) (subst (λ (k : ℕ). Puts m c d k 4 s) at g4) p
+      let room = sym (lt-leb most_identifiers t.len (omega arith)) in
+      let at : x ≡ t.len = draws.id ∙ sym (id_next t.len room refl) in
+      new_filled ns (draws.count ∙ sym (count_more t.len room refl)) same (omega arith) (subst (λ (k : ℕ). Puts u b k 2 w) at g2) (subst (λ (k : ℕ). Puts b c k 3 f) at g3) (subst (λ (k : ℕ). Puts c d k 4 s) at g4) p
 ]
 
--- ---- one node, if it is to be made
-pub make_one : (ns : List Node) {n : ℕ} {a : List ℕ} (x : Node) {b : Bool} → b ≡ true → Held (ns ++ (x ∷ [])) n a → Held (ns ++ cond b (x ∷ []) []) n a
-make_one ns x {b} e p = held_as (ns ++ cond b (x ∷ []) []) (rw e refl) p
-
-pub make_none : (ns : List Node) {n : ℕ} {a : List ℕ} (x : Node) {b : Bool} → b ≡ false → Held ns n a → Held (ns ++ cond b (x ∷ []) []) n a
-make_none ns x {b} e p = held_as (ns ++ cond b (x ∷ []) []) (rw e (sym (append-nil ns))) p
-
 -- ---- links
-module _ (ns : List Node) (p : Place) {place len : ℕ} {a b c d e g : List ℕ} (x y : ℕ) (z : place_code p ≡ place)
-    (g0 : Puts len a b x 0 y) (g1 : Puts len b c x 1 place) (g6 : Puts len c d x 6 nobody) (g7 : Puts len d e x 7 nobody) (g8 : Puts len e g x 8 nobody)
-    (has : Held ns len a) where
-  entered : Held (change ns x (placed_below y p)) len g
+module _ (ns : List Node) (p : Place) {place : ℕ} {a b c d e g : ProofTree} (x y : ℕ) (z : place_code p ≡ place)
+    (g0 : Puts a b x 0 y) (g1 : Puts b c x 1 place) (g6 : Puts c d x 6 nobody) (g7 : Puts d e x 7 nobody) (g8 : Puts e g x 8 nobody)
+    (has : HasNodes ns a) where
+  entered : HasNodes (change ns x (placed_below y p)) g
   entered =
       held_as (change ns x (placed_below y p))
       (changes_one ns x (with_parent y) (with_place p ∷ with_left nobody ∷ with_middle nobody ∷ with_right nobody ∷ []))
-      (g8 _ (with_right nobody) (λ n. refl)
-      (g7 _ (with_middle nobody) (λ n. refl)
-      (g6 _ (with_left nobody) (λ n. refl)
-      (g1 _ (with_place p) (λ n. ap (λ (v : ℕ). set (row n) 1 v) z) (g0 ns (with_parent y) (λ n. refl) has)))))
+      (g8.1 _ (with_right nobody) (λ n. refl)
+      (g7.1 _ (with_middle nobody) (λ n. refl)
+      (g6.1 _ (with_left nobody) (λ n. refl)
+      (g1.1 _ (with_place p) (λ n. ap (λ (v : ℕ). set (row n) 1 v) z) (g0.1 ns (with_parent y) (λ n. refl) has)))))
 
   root : (q : Place) → place_code q ≡ 0 → (n : Node) → with_child q x n ≡ n
   unfolding set_child
@@ -198,7 +173,7 @@ module _ (ns : List Node) (p : Place) {place len : ℕ} {a b c d e g : List ℕ}
   root Right w n = absurd (omega arith)
   root Unplaced w n = refl
 
-  pub link_root : place ≡ 0 → Held (link ns y p x) len g
+  pub link_root : place ≡ 0 → HasNodes (link ns y p x) g
   unfolding link
   link_root w =
       let m = change ns x (placed_below y p) in
@@ -212,9 +187,9 @@ module _ (ns : List Node) (p : Place) {place len : ℕ} {a b c d e g : List ℕ}
   child Right w n = refl
   child Unplaced w n = refl
 
-  pub link_child : {h : List ℕ} → (place ≡ 0 → ⊥) → Puts len g h y (place + 5) x → Held (link ns y p x) len h
+  pub link_child : {h : ProofTree} → (place ≡ 0 → ⊥) → Puts g h y (place + 5) x → HasNodes (link ns y p x) h
   unfolding link
   link_child w put =
-      put (change ns x (placed_below y p)) (with_child p x)
+      put.1 (change ns x (placed_below y p)) (with_child p x)
       (λ n. child p (λ (v : place_code p ≡ 0). w (sym z ∙ v)) n ∙ ap (λ (k : ℕ). set (row n) (k + 5) x) z)
       entered

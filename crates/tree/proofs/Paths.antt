@@ -11,7 +11,7 @@ use Rattle.definition.specs.Limits.{most_identifiers}
 use Rattle.arrays.specs.Listed.{Listed}
 use Rattle.definition.specs.Lists.{any, filter}
 use Rattle.definition.specs.Records.{nobody, is_nobody}
-use Rattle.definition.specs.Tree.{Node, Place, Root, Left, Middle, Right, Unplaced, Children, new_node, node_at, is_contradictory, is_leaf, only, leaves_below, upward, leaves, path}
+use Rattle.definition.specs.Tree.{Node, Place, Root, Left, Middle, Right, Unplaced, new_node, node_at, is_contradictory, is_leaf, only, leaves_below, upward, leaves, path}
 use Rattle.definition.specs.Subtree.{takes}
 use Rattle.definition.proofs.Basics.Lists.{true_false}
 use Rattle.definition.specs.TreeShape.{placed, Treed}
@@ -86,11 +86,6 @@ leaves_as t len e = ap (λ (d : ℕ). leaves_below d t 0) (sym e)
 three_appended : (k u v w s : List ℕ) → u ++ (v ++ w) ≡ s → ((k ++ u) ++ v) ++ w ≡ k ++ s
 three_appended k u v w s e = append_assoc (k ++ u) v w ∙ append_assoc k u (v ++ w) ∙ ap (λ (z : List ℕ). k ++ z) e
 
--- the children of a node, read one by one
-pub leaf_as : (c : Children) (l m r : ℕ) {v : Bool} → l ≡ c.left → m ≡ c.middle → r ≡ c.right → v ≡ is_leaf (record { left = l; middle = m; right = r }) → is_leaf c ≡ v
-unfolding is_leaf
-leaf_as c l m r el em er w = sym (w ∙ rw (el, em, er) refl)
-
 -- nobody has no child
 pub nobody_leaf : (t : List Node) (x : ℕ) → length t ≤ most_identifiers → is_nobody x ≡ true → is_leaf (node_at t x).children ≡ true
 unfolding is_leaf
@@ -143,25 +138,21 @@ module _ {t : List Node} {shut : ℕ → Bool} {W : ℕ → ℕ → List ℕ} (w
       pub walk_end : {n : ℕ} {a : List ℕ} → d ≡ 0 → Listed (k ++ (x ∷ [])) n a → Listed (k ++ W d x) n a
       walk_end z = listed_as (k ++ W d x) (ap (λ (v : List ℕ). k ++ v) (sym (ap (λ (j : ℕ). W j x) z ∙ ends)))
 
-      -- the children of x, read once
-      module _ {v : Bool} (l m r : ℕ) (el : l ≡ (node_at t x).children.left) (em : m ≡ (node_at t x).children.middle) (er : r ≡ (node_at t x).children.right)
-          (w : v ≡ is_leaf (record { left = l; middle = m; right = r })) where
-        forks : (j : ℕ) → W (suc j) x ≡ cond v (x ∷ []) (W j l ++ (W j m ++ W j r))
-        forks j = walk.at_node j x (sym e ∙ q) (sym f ∙ u) ∙ rw (leaf_as (node_at t x).children l m r el em er w, el, em, er) refl
-
+      module _ {v : Bool} (w : v ≡ is_leaf (node_at t x).children) where
         pub walk_leaf : {n : ℕ} {a : List ℕ} → v ≡ true → Listed (k ++ (x ∷ [])) n a → Listed (k ++ W d x) n a
         walk_leaf y = listed_as (k ++ W d x) (ap (λ (z : List ℕ). k ++ z) (sym (go d)))
           where
             go : (j : ℕ) → W j x ≡ x ∷ []
             go zero = ends
-            go (suc j) = forks j ∙ rw y refl
+            go (suc j) = walk.at_node j x (sym e ∙ q) (sym f ∙ u) ∙ rw (← w, y) refl
 
-        pub walk_deep : {n : ℕ} {a : List ℕ} → (d ≡ 0 → ⊥) → v ≡ false → Listed (((k ++ W (d - 1) l) ++ W (d - 1) m) ++ W (d - 1) r) n a → Listed (k ++ W d x) n a
-        walk_deep z y = listed_as (k ++ W d x) (three_appended k (W (d - 1) l) (W (d - 1) m) (W (d - 1) r) (W d x) (go d z))
+        -- its children, read one by one
+        pub walk_deep : {n : ℕ} {a : List ℕ} (l m r : ℕ) → l ≡ (node_at t x).children.left → m ≡ (node_at t x).children.middle → r ≡ (node_at t x).children.right → (d ≡ 0 → ⊥) → v ≡ false → Listed (((k ++ W (d - 1) l) ++ W (d - 1) m) ++ W (d - 1) r) n a → Listed (k ++ W d x) n a
+        walk_deep l m r el em er z y = listed_as (k ++ W d x) (three_appended k (W (d - 1) l) (W (d - 1) m) (W (d - 1) r) (W d x) (go d z))
           where
             go : (j : ℕ) → (j ≡ 0 → ⊥) → W (j - 1) l ++ (W (j - 1) m ++ W (j - 1) r) ≡ W j x
             go zero z = absurd (z refl)
-            go (suc j) z = rw sub-one (sym (forks j ∙ rw y refl))
+            go (suc j) z = rw sub-one (sym (walk.at_node j x (sym e ∙ q) (sym f ∙ u) ∙ rw (← w, y, el, em, er) refl))
 
 -- ---- the leaves that take what goes below the target
 -- no place is no place in the tree
@@ -182,11 +173,11 @@ in_code Right e = refl
 in_code Unplaced e = absurd (e refl)
 
 module _ (t : List Node) (r : Treed t) (g : ℕ) {p : ℕ} (e : p ≡ place_code (node_at t g).place) where
-  pub takers_none : {a : List ℕ} → p ≡ 65535 → Listed [] 0 a → Listed (filter (takes t g) (leaves t)) 0 a
+  pub takers_none : {n : ℕ} {a : List ℕ} → p ≡ 65535 → Listed [] n a → Listed (filter (takes t g) (leaves t)) n a
   takers_none q = listed_as (filter (takes t g) (leaves t)) (sym (takers_out t r g (out_code (node_at t g).place (sym e ∙ q))))
 
   module _ (q : p ≡ 65535 → ⊥) {c : Bool} (f : c ≡ closed t g) where
-    pub takers_shut : {a : List ℕ} → c ≡ true → Listed [] 0 a → Listed (filter (takes t g) (leaves t)) 0 a
+    pub takers_shut : {n : ℕ} {a : List ℕ} → c ≡ true → Listed [] n a → Listed (filter (takes t g) (leaves t)) n a
     takers_shut y = listed_as (filter (takes t g) (leaves t)) (sym (takers_closed t r g (in_code (node_at t g).place (λ d. q (e ∙ d))) (sym f ∙ y)))
 
     pub takers_walked : {n : ℕ} {a : List ℕ} → c ≡ false → (len : ℕ) → length t ≡ len → Listed (open_below len t g) n a → Listed (filter (takes t g) (leaves t)) n a

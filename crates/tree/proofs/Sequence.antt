@@ -5,16 +5,12 @@ use mathlib.Core.Bool.{Bool, true, false}
 use lib.Dec.{leb}
 use native.Mathlib.Omega.{arith}
 use native.Mathlib.Decide.{dec_le}
-use borrow.Author.Tests.{leb-false, le-leb, lt-leb}
+use borrow.Author.Tests.{le-leb, lt-leb}
 use Rattle.definition.specs.Limits.{most_identifiers}
 use Rattle.definition.specs.Records.{nobody}
-use Rattle.tree.specs.declared.Issued.{Issued}
 use Rattle.tree.specs.Sequence.{id_at, count_after, Draws}
 
 module _ (n : ℕ) {full : Bool} (e : full ≡ leb most_identifiers n) where
-  pub room : full ≡ false → n < most_identifiers
-  room h = leb-false most_identifiers n (sym e ∙ h)
-
   pub id_none : full ≡ true → nobody ≡ id_at n
   unfolding id_at
   id_none h = rw (← e, h) refl
@@ -35,13 +31,13 @@ pub id_fits : (n : ℕ) → n < most_identifiers → id_at n ≡ n
 id_fits n h = sym (id_next n (sym (lt-leb most_identifiers n h)) refl)
 
 -- an identifier that fits is the count before it
-pub record Next (n : ℕ) (r : Issued) : Type 0 where
+pub record Next (n m x : ℕ) : Type 0 where
   pub room : n < most_identifiers
-  pub id : r.id.0 ≡ n
-  pub count : r.len ≡ n + 1
+  pub id : x ≡ n
+  pub count : m ≡ n + 1
 
-pub drawn_next : {n : ℕ} {r : Issued} → Draws n r → r.len ≤ most_identifiers → Next n r
-drawn_next {n} {r} d h = elim (dec_le most_identifiers n) [
+pub drawn_next : {n m x : ℕ} → Draws n m x → m ≤ most_identifiers → Next n m x
+drawn_next {n} {m} {x} d h = elim (dec_le most_identifiers n) [
   | yes g ↦ absurd (omega (arith, h, d.count, count_full n (sym (le-leb most_identifiers n g)) refl))
   | no g ↦
       let e = sym (lt-leb most_identifiers n (omega (arith, g))) in

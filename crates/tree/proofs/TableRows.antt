@@ -3,7 +3,7 @@ use Prim.Native.Nat.{ℕ, zero, suc, ◌+◌, ◌*◌, ◌-◌, ◌<◌, ◌≤�
 use mathlib.Core.Path.{◌≡◌, refl, sym, ap, ◌∙◌}
 use mathlib.Core.List.{List, [], ◌∷◌, ◌++◌, append_assoc}
 use native.Mathlib.Omega.{arith}
-use lib.ListN.{length, get_or, set, replicate, length-append, length-set, length-replicate, replicate-append-replicate, get_or-eq_default}
+use lib.ListN.{length, get_or, set, replicate, length-append, length-set, length-replicate, replicate-append-replicate}
 use lib.Seq.{set-append_left}
 use Rattle.definition.specs.Limits.{most_identifiers}
 use Rattle.limits.specs.Arrays.{node_fields, node_cells}
@@ -47,13 +47,6 @@ read_at ns {a} i j z g b =
     ∙ ap (λ (l : List ℕ). get_or l (i * node_fields + j) nobody) z.laid
     ∙ then_nobodies (rows ns) ((most_identifiers - length ns) * node_fields) (i * node_fields + j)
     ∙ rows_read row (λ n. refl) ns blank i j nobody (λ past. sym (nobodies node_fields j)) b
-
-pub read_row_out : (ns : List Node) (i j : ℕ) → length ns ≤ most_identifiers → most_identifiers ≤ i → nobody ≡ get_or (row (node_at ns i)) j nobody
-read_row_out ns i j h g =
-    sym (nobodies node_fields j) ∙ ap (λ (n : Node). get_or (row n) j nobody) (sym (get_or-eq_default ns blank (omega arith)))
-
-pub read_out : (n : Node) (j : ℕ) → node_fields ≤ j → nobody ≡ get_or (row n) j nobody
-read_out n j h = sym (get_or-eq_default (row n) nobody h)
 
 -- ---- stores
 set_append_add : (xs ys : List ℕ) (i v : ℕ) → set (xs ++ ys) (length xs + i) v ≡ xs ++ set ys i v

@@ -3,7 +3,6 @@ use Rattle.std.specs.Prelude.{ℕ, ◌+◌, ◌≤◌, ◌≡◌, true, false, c
 use Rattle.definition.specs.Limits.{most_identifiers}
 use Rattle.definition.specs.Lists.{up_from}
 use Rattle.tree.specs.declared.Chain.{Chain}
-use Rattle.tree.specs.declared.IssuedChain.{IssuedChain}
 
 unfoldable pub chain_of : Chain → List ℕ
 chain_of c = cond c.rising (up_from c.count c.start.0) (reverse (up_from c.count c.start.0))
@@ -29,6 +28,6 @@ pub record Spans (c : Chain) (lo hi : ℕ) : Type 0 where
   pub low : c.start.0 ≤ lo
   pub begins : (c.count ≡ 0) ⊎ (c.start.0 ≡ lo)
 
--- the identifiers drawn since lo were issued, where all fit
-abbrev pub DrawnFrom : ℕ → IssuedChain → Type 0
-DrawnFrom lo r = r.len ≤ most_identifiers → Spans r.chain lo r.len
+-- the identifiers drawn since lo were issued, up to the len that are issued now, where all fit
+abbrev pub DrawnFrom : ℕ → Chain → ℕ → Type 0
+DrawnFrom lo c len = len ≤ most_identifiers → Spans c lo len

@@ -4,6 +4,7 @@ use Rattle.definition.specs.Limits.{most_identifiers}
 use Rattle.limits.specs.Arrays.{node_fields}
 use Rattle.definition.specs.Lists.{concat_map}
 use Rattle.definition.specs.Records.{nobody}
+use Rattle.tree.specs.declared.ProofTree.{ProofTree}
 use Rattle.definition.specs.Tree.{Node, Place, Root, Left, Middle, Right, Unplaced}
 
 -- a place in a row
@@ -39,3 +40,10 @@ pub record Lays (ns : List Node) (a : List ℕ) : Type 0 where
 pub data Held (ns : List Node) (len : ℕ) (a : List ℕ) : Type 0 where
   held : len ≤ most_identifiers → length ns ≡ len → a ≡ lay ns → Held ns len a
   too_many : most_identifiers < len → most_identifiers < length ns → Held ns len a
+
+-- the struct's rows are the nodes'; its rows and its count are the nodes'
+abbrev pub Laid : List Node → ProofTree → Type 0
+Laid ns t = Lays ns t.cells
+
+abbrev pub HasNodes : List Node → ProofTree → Type 0
+HasNodes ns t = Held ns t.len t.cells

@@ -2,7 +2,6 @@
 use Rattle.std.specs.Prelude.{ℕ, suc, ◌+◌, ◌≡◌, cond, leb}
 use Rattle.definition.specs.Limits.{most_identifiers}
 use Rattle.definition.specs.Records.{nobody}
-use Rattle.tree.specs.declared.Issued.{Issued}
 
 -- the identifier that the sequence gives next; none where `most_identifiers` are issued
 unfoldable pub id_at : ℕ → ℕ
@@ -12,7 +11,7 @@ id_at n = cond (leb most_identifiers n) nobody n
 unfoldable pub count_after : ℕ → ℕ
 count_after n = cond (leb most_identifiers n) (suc most_identifiers) (n + 1)
 
--- what is drawn where n are issued
-pub record Draws (n : ℕ) (r : Issued) : Type 0 where
-  pub id : r.id.0 ≡ id_at n
-  pub count : r.len ≡ count_after n
+-- what is drawn where n are issued: the identifier x, and m are issued with it
+pub record Draws (n m x : ℕ) : Type 0 where
+  pub id : x ≡ id_at n
+  pub count : m ≡ count_after n

@@ -1,6 +1,7 @@
 -- The typed call, from what the reader says of the text and the contract of the call.
 use mathlib.Core.Path.{◌≡◌, refl, sym, ap, ◌∙◌, subst}
 use mathlib.Core.List.{List}
+use Rattle.std.proofs.Common.{Err}
 use Prim.Native.Nat.{ℕ, ◌<◌, ◌≤◌, ◌*◌, ◌-◌}
 use native.Mathlib.Omega.{arith}
 use lib.ListN.{length, take, drop, replicate, length-append}
@@ -21,7 +22,11 @@ use Rattle.grammar.specs.Lines.{lines_from, tray_of}
 use Rattle.grammar.proofs.Decoded.{length_bytes, tray_prefix}
 use Rattle.grammar.proofs.Theorems.{one_reading, one_offset, apart, faithful, decoded}
 use Rattle.prover.specs.Contract.{Contract}
-use Rattle.reader.specs.Contract.{Taken}
+use Rattle.prover.specs.Said.{said}
+use Rattle.reader.specs.Contract.{Taken, ReadText}
+use Rattle.reader.specs.Refused.{refusal_of}
+use Rattle.reader.specs.declared.TextError.{TextError}
+use Rattle.reader.specs.declared.TextError.TheVariants as E
 use Rattle.typed.specs.Contract.{Ran, TypedContract}
 
 -- the records that were read stand at the beginning of the text tray
@@ -47,7 +52,7 @@ same_forms : (ps : List Form) → branch_of (decode (concat_map record_bytes (li
 same_forms ps = ap branch_of (decoded ps) ∙ faithful ps
 
 module _ (text : List ℕ) (flags : ℕ) {textTray textTrayLeft : List ℕ} (lent : Trays) where
-  pub too_short : (length textTray < text_tray_length) × (textTrayLeft ≡ textTray) → TypedContract text flags textTray lent (refusal tray_too_short 0) textTrayLeft lent
+  too_short : (length textTray < text_tray_length) × (textTrayLeft ≡ textTray) → TypedContract text flags textTray lent (refusal tray_too_short 0) textTrayLeft lent
   too_short (h, kept) = record {
     short_tray = λ _. record { says = refl; text_tray_kept = kept; trays_kept = refl };
     long_text = λ k _. absurd (omega (arith, h, k));
@@ -57,7 +62,7 @@ module _ (text : List ℕ) (flags : ℕ) {textTray textTrayLeft : List ℕ} (len
     long_exactly = (λ e. let d : tray_too_short ≡ text_too_long = cc in absurd (omega (arith, d)), λ (k, _). absurd (omega (arith, h, k)));
   }
 
-  pub too_long : (text_tray_length ≤ length textTray) × (most_text < length text) × (textTrayLeft ≡ textTray) → TypedContract text flags textTray lent (refusal text_too_long 0) textTrayLeft lent
+  too_long : (text_tray_length ≤ length textTray) × (most_text < length text) × (textTrayLeft ≡ textTray) → TypedContract text flags textTray lent (refusal text_too_long 0) textTrayLeft lent
   too_long (wide, h, kept) = record {
     short_tray = λ k. absurd (omega (arith, wide, k));
     long_text = λ _ _. record { says = refl; text_tray_kept = kept; trays_kept = refl };
@@ -67,7 +72,7 @@ module _ (text : List ℕ) (flags : ℕ) {textTray textTrayLeft : List ℕ} (len
     long_exactly = (λ _. (wide, h), λ _. refl);
   }
 
-  pub unreadable : (o : ℕ) → (text_tray_length ≤ length textTray) × (length text ≤ most_text) × UnreadableAt text o × (textTrayLeft ≡ textTray) → TypedContract text flags textTray lent (refusal unreadable_text o) textTrayLeft lent
+  unreadable : (o : ℕ) → (text_tray_length ≤ length textTray) × (length text ≤ most_text) × UnreadableAt text o × (textTrayLeft ≡ textTray) → TypedContract text flags textTray lent (refusal unreadable_text o) textTrayLeft lent
   unreadable o (wide, few, g, kept) = record {
     short_tray = λ k. absurd (omega (arith, wide, k));
     long_text = λ _ k. absurd (omega (arith, few, k));
@@ -80,8 +85,15 @@ module _ (text : List ℕ) (flags : ℕ) {textTray textTrayLeft : List ℕ} (len
     long_exactly = (λ e. let d : unreadable_text ≡ text_too_long = cc in absurd (omega (arith, d)), λ (_, k). absurd (omega (arith, few, k)));
   }
 
-  module _ (said : Answer) (left : Trays) where
-    went : (ps : List Form) → textTrayLeft ≡ over (tray_of (lines_from 0 ps)) textTray → Contract (concat_map record_bytes (lines_from 0 ps)) flags lent said left → Ran flags textTray lent said textTrayLeft left ps
+  -- a text that is not read
+  pub refused : (e : TextError) → ReadText text textTray textTrayLeft (Err e) → TypedContract text flags textTray lent (said (Err (refusal_of e))) textTrayLeft lent
+  unfolding said
+  refused E.ShortTray h = too_short h
+  refused E.TooLong h = too_long h
+  refused (E.Unreadable o) h = unreadable o h
+
+  module _ (answer : Answer) (left : Trays) where
+    went : (ps : List Form) → textTrayLeft ≡ over (tray_of (lines_from 0 ps)) textTray → Contract (concat_map record_bytes (lines_from 0 ps)) flags lent answer left → Ran flags textTray lent answer textTrayLeft left ps
     went ps tray k =
         let F = setting_of flags in
         record {
@@ -93,15 +105,15 @@ module _ (text : List ℕ) (flags : ℕ) {textTray textTrayLeft : List ℕ} (len
         }
 
     pub read_and_run : {count : ℕ} → (text_tray_length ≤ length textTray) × (length text ≤ most_text) × Taken text textTray textTrayLeft count →
-        Contract (take (record_length * count) textTrayLeft) flags lent said left → TypedContract text flags textTray lent said textTrayLeft left
+        Contract (take (record_length * count) textTrayLeft) flags lent answer left → TypedContract text flags textTray lent answer textTrayLeft left
     read_and_run (wide, few, t) c =
-        let k = subst (λ (b : List ℕ). Contract b flags lent said left) (records_begin t) c in
-        let low : (number place : ℕ) → said ≡ refusal number place → number ≤ too_many_identifiers = λ number place e. refusal_number (bytes t) flags lent number place (sym k.answers ∙ e) in
+        let k = subst (λ (b : List ℕ). Contract b flags lent answer left) (records_begin t) c in
+        let low : (number place : ℕ) → answer ≡ refusal number place → number ≤ too_many_identifiers = λ number place e. refusal_number (bytes t) flags lent number place (sym k.answers ∙ e) in
         record {
           short_tray = λ h. absurd (omega (arith, wide, h));
           long_text = λ _ h. absurd (omega (arith, few, h));
           unreadable = λ _ _ o g. absurd (apart text o t.forms g t.reads);
-          taken = λ _ _ ps h. subst (Ran flags textTray lent said textTrayLeft left) (one_reading text t.forms ps t.reads h) (went t.forms t.tray k);
+          taken = λ _ _ ps h. subst (Ran flags textTray lent answer textTrayLeft left) (one_reading text t.forms ps t.reads h) (went t.forms t.tray k);
           unreadable_exactly = λ o. (λ e. absurd (omega (arith, low unreadable_text o e)), λ (_, _, g). absurd (apart text o t.forms g t.reads));
           long_exactly = (λ e. absurd (omega (arith, low text_too_long 0 e)), λ (_, h). absurd (omega (arith, few, h)));
         }

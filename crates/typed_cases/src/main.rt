@@ -2,13 +2,15 @@
 // at flags 0, how many records were read, and a digest of them.
 #![tactic(auto)]
 
-ghost use Rattle.std.specs.Prelude.{◌≡◌, ◌≤◌, length};
+ghost use Rattle.std.specs.Prelude.{◌≤◌, ◌<◌, length, IfSome};
 
 use limits::{
     EDGE_TRAY_LENGTH, FORMULA_TRAY_LENGTH, MOST_TEXT, NODE_TRAY_LENGTH, RECORD_LENGTH,
-    TEXT_TOO_LONG, TEXT_TRAY_LENGTH, TextRecords, UNREADABLE_TEXT,
+    TEXT_TRAY_LENGTH, TextRecords,
 };
-use prover::Answer;
+use prover::Verdict;
+use refusal::{Reason, Refusal};
+use std::fmt;
 use std::io::Read;
 use typed::prove_typed;
 
@@ -18,192 +20,110 @@ const CASE_LENGTH: usize = 5000;
 // What the tray of the records is lent with.
 const FILLING: u8 = 165;
 
-type CaseBytes = [u8; CASE_LENGTH];
+// The line of an answer, up to the records.
+#[derive(Clone, Copy)]
+struct Line(Result<Verdict, Refusal>);
 
-fn write<P: Print>(rt: &P, text: &[u8]) {
-    let _ = rt.write_all(text);
+impl fmt::Display for Line {
+    fn fmt<W: fmt::Write>(&self, f: &mut fmt::Formatter<W>) -> fmt::Result {
+        match self.0 {
+            Err(Refusal { reason, place }) => write!(f, "refused {} {place}", u16::from(reason)),
+            Ok(verdict) => {
+                let word = word(verdict);
+                write!(
+                    f,
+                    "{word} {} {} {}",
+                    verdict.identifiers, verdict.worlds, verdict.steps
+                )
+            }
+        }
+    }
 }
 
-fn write_number<P: Print>(rt: &P, n: u64, after: &[u8]) {
-    let _ = rt.print(n);
-    write(rt, after);
+fn word(verdict: Verdict) -> &'static str {
+    match (verdict.proved, verdict.late) {
+        (true, true) => "proved and late",
+        (true, false) => "proved",
+        (false, true) => "late",
+        (false, false) => "open",
+    }
 }
 
 // How many records: they end with the last that is marked.
-fn record_count(records: &TextRecords) -> usize {
-    let mut n = MOST_TEXT;
-    while 0 < n {
-        if MOST_TEXT < n {
-            return 0;
-        }
-        if records[RECORD_LENGTH * (n - 1) + 1] == 1 {
-            return n;
-        }
-        n -= 1;
-    }
-    0
+fn record_count(records: &TextRecords) -> usize
+    ensures { result ≤ MOST_TEXT }
+{
+    records
+        .chunks_exact(RECORD_LENGTH)
+        .rposition(|record| record[1] == 1)
+        .map_or(0, |last| last + 1)
 }
 
 // A digest with one byte more.
 fn fold(d: u64, b: u8) -> u64 {
-    (d % 4294967296 * 33 + b as u64) % 4294967296
+    (d % 4294967296 * 33 + u64::from(b)) % 4294967296
 }
 
-// A digest of the first n bytes.
-fn digest(records: &TextRecords, n: usize) -> u64 {
-    let mut d: u64 = 5381;
-    let mut i: usize = 0;
-    while i < n {
-        if TEXT_TRAY_LENGTH <= i {
-            return d;
-        }
-        d = fold(d, records[i]);
-        i += 1;
-    }
-    d
-}
-
-fn word<P: Print>(rt: &P, proved: bool, late: bool) {
-    if proved {
-        if late {
-            return write(rt, b"proved and late ");
-        }
-        return write(rt, b"proved ");
-    }
-    if late {
-        return write(rt, b"late ");
-    }
-    write(rt, b"open ")
-}
-
-fn say<P: Print>(rt: &P, answer: Answer) {
-    match answer {
-        Answer::Refusal { number, place } => {
-            write(rt, b"refused ");
-            write_number(rt, number as u64, b" ");
-            write_number(rt, place as u64, b" ");
-        }
-        Answer::Verdict {
-            proved,
-            late,
-            identifiers,
-            formulas: _,
-            worlds,
-            steps,
-        } => {
-            word(rt, proved, late);
-            write_number(rt, identifiers as u64, b" ");
-            write_number(rt, worlds as u64, b" ");
-            write_number(rt, steps as u64, b" ");
-        }
-    }
+// A digest of the bytes.
+fn digest(bytes: &[u8]) -> u64 {
+    bytes.iter().fold(5381, |d, b| fold(d, *b))
 }
 
 // What stands in the tray behind the records: zeros; or, where nothing was to be written, what it was lent with.
-fn filling(answer: Answer) -> u8 {
+fn filling(answer: Result<Verdict, Refusal>) -> u8 {
     match answer {
-        Answer::Refusal { number, place: _ } => {
-            if number == UNREADABLE_TEXT {
-                return FILLING;
-            }
-            if number == TEXT_TOO_LONG {
-                return FILLING;
-            }
-            0
-        }
+        Err(
+            Refusal {
+                reason: Reason::UnreadableText | Reason::TextTooLong,
+                ..
+            },
+        ) => FILLING,
         _ => 0,
     }
 }
 
-// Whether that is all that stands there.
-fn filled(records: &TextRecords, n: usize, b: u8) -> bool {
-    let mut i = n;
-    while i < TEXT_TRAY_LENGTH {
-        if records[i] != b {
-            return false;
-        }
-        i += 1;
-    }
-    true
-}
-
-// The line of the first n bytes.
-fn show<P: Print>(rt: &P, text: &[u8], n: usize) {
-    if text.len() < n {
-        return;
-    }
+// The line of a text.
+fn show<P: Print>(rt: &P, text: &[u8]) {
     let mut records = [FILLING; TEXT_TRAY_LENGTH];
     let mut nodes = [0u8; NODE_TRAY_LENGTH];
     let mut formulas = [0u8; FORMULA_TRAY_LENGTH];
     let mut edges = [0u32; EDGE_TRAY_LENGTH];
-    let answer = prove_typed(
-        &text[..n],
-        0,
-        &mut records,
-        &mut nodes,
-        &mut formulas,
-        &mut edges,
-    );
-    say(rt, answer);
+    let answer = prove_typed(text, 0, &mut records, &mut nodes, &mut formulas, &mut edges);
     let count = record_count(&records);
-    write_number(rt, count as u64, b" ");
-    if count <= MOST_TEXT {
-        let end = RECORD_LENGTH * count;
-        write_number(rt, digest(&records, end), b"");
-        if !filled(&records, end, filling(answer)) {
-            write(rt, b" and more");
-        }
-    }
-    write(rt, b"\n");
+    let (read, rest) = records.split_at(RECORD_LENGTH * count);
+    let filled = filling(answer);
+    let more = if rest.iter().all(|b| *b == filled) {
+        ""
+    } else {
+        " and more"
+    };
+    let line = Line(answer);
+    let digest = digest(read);
+    let _ = println!(rt; "{line} {count} {digest}{more}");
 }
 
-// So many bytes of the input, from a position on, then zeros.
-fn part(input: &[u8], at: usize, n: usize) -> CaseBytes
-    ensures { 5000 ≡ length result }
+// The length of the text at the start of the input, in two bytes, the low one first, and what comes after them.
+fn split_length(input: &[u8]) -> Option<(usize, &[u8])>
+    ensures short { IfSome result (λ found. found.0 ≤ CASE_LENGTH) }
+    ensures less { IfSome result (λ found. length found.1.now < length input.now) }
 {
-    let mut text = [0u8; CASE_LENGTH];
-    let mut i: usize = 0;
-    while i < n {
-        if CASE_LENGTH <= i {
-            return text;
-        }
-        if input.len() <= at {
-            return text;
-        }
-        if input.len() - at <= i {
-            return text;
-        }
-        text[i] = input[at + i];
-        i += 1;
+    let (length, rest) = input.split_first_chunk::<2>()?;
+    let n = usize::from(u16::from_le_bytes(*length));
+    if CASE_LENGTH < n {
+        return None;
     }
-    text
+    Some((n, rest))
 }
 
-fn number(low: u8, high: u8) -> usize {
-    low as usize + 256 * high as usize
-}
-
-// The length of the text at a position: its two bytes, the low one first; too long where there are none.
-fn length_at(input: &[u8], at: usize) -> usize {
-    if input.len() < 2 {
-        return CASE_LENGTH + 1;
-    }
-    if input.len() - 2 < at {
-        return CASE_LENGTH + 1;
-    }
-    number(input[at], input[at + 1])
-}
-
+// The texts one after the other; what is missing of the last counts as zeros.
 fn show_all<P: Print>(rt: &P, input: &[u8]) {
-    let mut at: usize = 0;
-    while at < input.len() {
-        let n = length_at(input, at);
-        if CASE_LENGTH < n {
-            return;
-        }
-        let text = part(input, at + 2, n);
-        show(rt, &text, n);
-        at += 2 + n;
+    let mut rest = input;
+    while let Some((n, after)) = split_length(rest) {
+        let mut text = [0u8; CASE_LENGTH];
+        let there = n.min(after.len());
+        text[..there].copy_from_slice(&after[..there]);
+        show(rt, &text[..n]);
+        rest = &after[there..];
     }
 }
 
@@ -214,8 +134,7 @@ fn read_full<R: Read>(input: &mut R, buf: &mut [u8]) -> usize
     let mut done: usize = 0;
     while done < buf.len() {
         match input.read(&mut buf[done..]) {
-            Err(_) => return done,
-            Ok(0) => return done,
+            Err(_) | Ok(0) => return done,
             Ok(n) => done += n,
         }
     }
@@ -223,7 +142,7 @@ fn read_full<R: Read>(input: &mut R, buf: &mut [u8]) -> usize
 }
 
 fn main(rt: HostRuntime) {
-    let mut input = io::large_buffer();
+    let mut input = [0u8; 65536];
     let n = read_full(&mut rt.stdin(), &mut input);
     show_all(&rt, &input[..n]);
 }

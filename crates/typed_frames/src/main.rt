@@ -2,9 +2,9 @@
 #![tactic(auto)]
 
 fn main(rt: HostRuntime) {
-    let mut kept = [0u8; typed_text::KEPT_LENGTH];
-    let mut text = [0u8; frames::TEXT_LENGTH];
-    typed_text::run(
+    let mut kept = typed_text::Kept::new();
+    let mut text = frames::Lines::new();
+    let _ = typed_text::run(
         frames::word_count(&rt),
         &mut rt.stdin(),
         &mut rt.stdout(),

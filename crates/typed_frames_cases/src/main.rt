@@ -1,9 +1,8 @@
 // Further cases of Eight Frames of typed rules: a title, then the eight lines; of a garbled text also what standard error gets.
 #![tactic(auto)]
 
-use frames::{TEXT_LENGTH, TextBytes};
 use limits::MOST_TEXT;
-use typed_text::{DIAGNOSIS_LENGTH, DiagnosisBytes, Shown};
+use typed_text::DIAGNOSIS_LENGTH;
 
 // The length of a first line: "line 1, column 4097: the text ends short" and the newline.
 const FIRST_LINE: usize = 41;
@@ -18,43 +17,19 @@ fn write<P: Print>(rt: &P, text: &[u8]) {
     let _ = rt.write_all(text);
 }
 
-// The first n bytes.
-fn write_first<P: Print>(rt: &P, text: &[u8], n: usize) {
-    if n <= text.len() {
-        write(rt, &text[..n]);
-    }
-}
-
-fn write_lines<P: Print>(rt: &P, text: &TextBytes, n: usize) {
-    write_first(rt, text, n);
-}
-
-fn write_place<P: Print>(rt: &P, out: &DiagnosisBytes, n: usize) {
-    write_first(rt, out, n);
-}
-
-fn least(a: usize, b: usize) -> usize {
-    if a < b { a } else { b }
-}
-
 // Where a text is garbled; at most so many bytes of it.
 fn show_place<P: Print>(rt: &P, rules: &[u8], at: usize, most: usize) {
-    let mut out = [0u8; DIAGNOSIS_LENGTH];
-    let n = typed_text::diagnosis(&mut out, rules, at);
-    write_place(rt, &out, least(most, n));
+    let place = typed_text::diagnosis(rules, at);
+    write(rt, &place[..most.min(place.len())]);
 }
 
 // The title, the eight lines, and at most so many bytes of where the text is garbled.
 fn show_most<P: Print>(rt: &P, title: &[u8], rules: &[u8], most: usize) {
-    let mut text = [0u8; TEXT_LENGTH];
-    let shown = typed_text::show(&mut text, rules);
+    let shown = typed_text::show(rules);
     write(rt, title);
-    match shown {
-        Shown::Lines { printed } => write_lines(rt, &text, printed),
-        Shown::Unreadable { printed, at } => {
-            write_lines(rt, &text, printed);
-            show_place(rt, rules, at, most);
-        }
+    write(rt, &shown.lines);
+    if let Some(at) = shown.unreadable_at {
+        show_place(rt, rules, at as usize, most);
     }
 }
 
@@ -101,14 +76,11 @@ fn show_order<P: Print>(rt: &P) {
 
 // A text of three bytes, again and again, as often as it has room, with a newline at its end.
 fn repeat(text: &mut [u8], part: &[u8; 3]) {
-    let mut i: usize = 0;
-    while i < text.len() {
-        text[i] = part[i % 3];
-        i += 1;
+    for chunk in text.chunks_exact_mut(3) {
+        chunk.copy_from_slice(part);
     }
-    if 0 < text.len() {
-        let last = text.len() - 1;
-        text[last] = b'\n';
+    if let Some(last) = text.last_mut() {
+        *last = b'\n';
     }
 }
 

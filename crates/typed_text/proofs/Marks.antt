@@ -1,134 +1,76 @@
--- The parts of a diagnosis, put one behind the other.
-use mathlib.Core.Path.{◌≡◌, refl, sym, ◌∙◌, ap, subst}
-use mathlib.Core.Bool.{Bool, true, false}
-use mathlib.Core.List.{List, [], ◌∷◌, ◌++◌, append_assoc, append-nil}
-use Prim.Native.Nat.{ℕ, suc, ◌+◌, ◌-◌, ◌*◌, ◌/◌, ◌%◌, ◌≤◌, ◌<◌}
-use native.Mathlib.Omega.{arith}
+-- The parts of a diagnosis, one behind the other.
+use Rattle.std.proofs.Common.{◌≡◌, refl, sym, ◌∙◌, ap, true, false, List, [], ◌∷◌, ◌++◌, ℕ, zero, suc, ◌+◌, ◌-◌, ◌*◌, ◌/◌, ◌%◌, ◌^◌, ◌≤◌, ◌<◌, length, take, get_or, append_assoc, arith, length-append}
 use native.Mathlib.Numerals.{add-one}
+use native.Mathlib.Nat.{pow-le-pow_right}
 use lib.Dec.{eqb}
-use lib.ListN.{length, get_or, take}
-use lib.Seq.{slice-cons, slice_empty}
-use Rattle.definition.specs.Lists.{concat_map}
-use Rattle.io.specs.Counts.{IsPrefixLen}
-use Rattle.io.specs.Digits.{hex_digit_ascii}
 use Rattle.slices.specs.Text.{decimal_of}
-use Rattle.frames.specs.Put.{Put}
-use Rattle.frames.proofs.Texts.{put_put, put_counts}
-use Rattle.typed_text.specs.Diagnosis.{plain, shown, blank, shown_as, shown_from, shown_length, reason_length, line_word, column_word, reason, place, column, line_number, line_start, line_end, heading, shown_line, mark, diagnosis}
+use mathlib.Core.List.{append-nil}
+use lib.Seq.{slice, take-suc, take-append_seam}
+use Rattle.std.proofs.lemmas.List.{drop-take}
+use lib.ListN.{drop, replicate, length-replicate}
+use Rattle.std.specs.List.{refill}
+use Rattle.io.specs.Digits.{hex_digit_ascii, last_digits, IsDigitCount}
+use Rattle.definition.specs.Lists.{concat_map}
+use Rattle.frames.proofs.Texts.{both}
+use Rattle.typed_text.specs.Diagnosis.{line_word, column_word, place, column, line_number, line_start, line_end, reason, heading, shown_from, shown_line, mark, diagnosis}
 
--- a byte's characters, by whether it prints as itself
-pub put_plain : {p : Bool} {text now : List ℕ} {at r : ℕ} (b : ℕ) → p ≡ plain b → p ≡ true → Put text at (b ∷ []) now r → Put text at (shown b) now r × (r ≤ at + shown_length)
-unfolding shown
-put_plain b e t p = (rw (sym e ∙ t) p, omega (arith, p.moved))
+each_append : (f : ℕ → List ℕ) (xs : List ℕ) (b : ℕ) → concat_map f (xs ++ (b ∷ [])) ≡ concat_map f xs ++ f b
+each_append f [] b = append-nil (f b)
+each_append f (x ∷ xs) b = ap (λ (l : List ℕ). f x ++ l) (each_append f xs b) ∙ sym (append_assoc (f x) (concat_map f xs) (f b))
 
-pub put_escaped : {p : Bool} {text now : List ℕ} {at r x y : ℕ} (b : ℕ) → p ≡ plain b → p ≡ false → x ≡ hex_digit_ascii (b / 16) → y ≡ hex_digit_ascii (b % 16)
-    → Put text at (92 ∷ 120 ∷ x ∷ y ∷ []) now r → Put text at (shown b) now r × (r ≤ at + shown_length)
-unfolding shown
-put_escaped {p} {text} {now} {at} {r} {x} {y} b e t d f q = (
-  rw (sym e ∙ t)
-      (subst (λ (z : ℕ). Put text at (92 ∷ 120 ∷ hex_digit_ascii (b / 16) ∷ z ∷ []) now r) f
-      (subst (λ (z : ℕ). Put text at (92 ∷ 120 ∷ z ∷ y ∷ []) now r) d q)),
-  omega (arith, q.moved),
-)
+pub each_none : (f : ℕ → List ℕ) (out : List ℕ) → out ≡ out ++ concat_map f []
+each_none f out = sym (append-nil out)
 
-pub put_space : {p : Bool} {text now : List ℕ} {at r : ℕ} (b : ℕ) → p ≡ plain b → p ≡ true → Put text at (32 ∷ []) now r → Put text at (blank b) now r × (r ≤ at + shown_length)
-unfolding shown blank
-put_space b e t p = (rw (sym e ∙ t) p, omega (arith, p.moved))
+-- what is made of one byte more
+pub each_next : (f : ℕ → List ℕ) (first out now glyph bytes : List ℕ) (i : ℕ) → i < length bytes → out ≡ first ++ concat_map f (take i bytes) → now ≡ out ++ glyph → glyph ≡ f (get_or bytes i 0)
+    → now ≡ first ++ concat_map f (take (i + 1) bytes)
+each_next f first out now glyph bytes i h p q e =
+    both first out now (concat_map f (take i bytes)) glyph p q
+    ∙ ap (λ (l : List ℕ). first ++ l)
+    (ap (λ (l : List ℕ). concat_map f (take i bytes) ++ l) e
+    ∙ sym (each_append f (take i bytes) (get_or bytes i 0))
+    ∙ ap (concat_map f) (sym (take-suc bytes i 0 h) ∙ ap (λ (n : ℕ). take n bytes) (sym (add-one i))))
 
-pub put_spaces : {p : Bool} {text now : List ℕ} {at r : ℕ} (b : ℕ) → p ≡ plain b → p ≡ false → Put text at (32 ∷ 32 ∷ 32 ∷ 32 ∷ []) now r → Put text at (blank b) now r × (r ≤ at + shown_length)
-unfolding shown blank
-put_spaces b e t p = (rw (sym e ∙ t) p, omega (arith, p.moved))
+pub each_length : (first out now glyph : List ℕ) (i : ℕ) → now ≡ out ++ glyph → length out ≤ length first + 4 * i → length glyph ≤ 4 → length now ≤ length first + 4 * (i + 1)
+each_length first out now glyph i q h k = omega (arith, ap length q, length-append out glyph, h, k)
 
-pub put_as_blank : {p : Bool} {text now : List ℕ} {at r : ℕ} (b : ℕ) → p ≡ true → Put text at (blank b) now r × (r ≤ at + shown_length) → Put text at (shown_as p b) now r × (r ≤ at + shown_length)
-unfolding shown_as
-put_as_blank b e p = rw e p
+pub two_digits : (n k : ℕ) → n < 256 → IsDigitCount 16 2 n k → k ≡ 2
+two_digits n zero h d = absurd (omega (arith, d.0))
+two_digits n (suc zero) h d = absurd (omega (arith, d.0))
+two_digits n (suc (suc zero)) h d = refl
+two_digits n (suc (suc (suc k))) h d =
+    let large : 16 ^ 2 ≤ 16 ^ (suc (suc (suc k)) - 1) = pow-le-pow_right {n = 16} (omega arith) {i = 2} {j = suc (suc (suc k)) - 1} (omega arith) in
+    absurd (omega (arith, large, d.2 (omega arith), h))
 
-pub put_as_shown : {p : Bool} {text now : List ℕ} {at r : ℕ} (b : ℕ) → p ≡ false → Put text at (shown b) now r × (r ≤ at + shown_length) → Put text at (shown_as p b) now r × (r ≤ at + shown_length)
-unfolding shown_as
-put_as_shown b e p = rw e p
+-- the two digits of a byte
+pub byte_digits : (n k : ℕ) (s : List ℕ) → n < 256 → IsDigitCount 16 2 n k → s ≡ last_digits 16 k n → s ≡ hex_digit_ascii (n / 16) ∷ hex_digit_ascii (n % 16) ∷ []
+byte_digits n k s h d e =
+    e ∙ ap (λ (m : ℕ). last_digits 16 m n) (two_digits n k h d)
+    ∙ ap (λ (m : ℕ). hex_digit_ascii m ∷ hex_digit_ascii (n % 16) ∷ []) (omega arith)
 
--- the bytes before i are put; with those of the rest they are all
-pub record Putting (out : List ℕ) (at : ℕ) (text : List ℕ) (start end : ℕ) (blanks : Bool) (i : ℕ) (now : List ℕ) (to : ℕ) : Type 0 where
-  pub part : List ℕ
-  pub put : Put out at part now to
-  pub rest : part ++ shown_from blanks text i end ≡ shown_from blanks text start end
-  pub begun : start ≤ i
-  pub inside : i ≤ end
-  pub few : to ≤ at + shown_length * (i - start)
-
-pub putting_start : (out : List ℕ) (at : ℕ) (text : List ℕ) (start end : ℕ) (blanks : Bool) → start ≤ end → Putting out at text start end blanks start out at
-putting_start out at text start end blanks h =
-    record {
-      part = [];
-      put = record { size = refl; moved = omega arith; holds = sym (append-nil (take at out)) };
-      rest = refl;
-      begun = omega arith;
-      inside = h;
-      few = omega arith;
-    }
-
-pub putting_next : {out text now after : List ℕ} {at start end i to r : ℕ} {blanks : Bool} → i < end → end ≤ length text → Putting out at text start end blanks i now to
-    → Put now to (shown_as blanks (get_or text i 0)) after r × (r ≤ to + shown_length) → Putting out at text start end blanks (i + 1) after r
-putting_next {out} {text} {now} {after} {at} {start} {end} {i} {to} {r} {blanks} h k p q =
-    let b = get_or text i 0 in
-    let left = shown_from blanks text (suc i) end in
-    record {
-      part = p.part ++ shown_as blanks b;
-      put = put_put p.put q.0;
-      rest =
-          ap (λ (n : ℕ). (p.part ++ shown_as blanks b) ++ shown_from blanks text n end) (add-one i)
-          ∙ append_assoc p.part (shown_as blanks b) left
-          ∙ sym (ap (λ (l : List ℕ). p.part ++ concat_map (shown_as blanks) l) (slice-cons i end text 0 h k))
-          ∙ p.rest;
-      begun = omega (arith, p.begun);
-      inside = omega arith;
-      few = omega (arith, p.few, p.begun, q.1);
-    }
-
-pub putting_all : {out text now : List ℕ} {at start end i to : ℕ} {blanks : Bool} → end ≤ i → Putting out at text start end blanks i now to
-    → Put out at (shown_from blanks text start end) now to × (to ≤ at + shown_length * (end - start))
-putting_all {out} {text} {now} {at} {start} {end} {i} {to} {blanks} h p =
-    let e : i ≡ end = omega (arith, p.inside) in
-    let whole : p.part ≡ shown_from blanks text start end =
-    sym (append-nil p.part)
-    ∙ ap (λ (l : List ℕ). p.part ++ concat_map (shown_as blanks) l) (sym (slice_empty end text))
-    ∙ ap (λ (n : ℕ). p.part ++ shown_from blanks text n end) (sym e)
-    ∙ p.rest in
-    (subst (λ (s : List ℕ). Put out at s now to) whole p.put, omega (arith, p.few, e))
-
-pub put_place : {text a b c now : List ℕ} {at i j k r : ℕ} (number col : ℕ) → Put text at line_word a i → Put a i (decimal_of number ++ (44 ∷ [])) b j
-    → Put b j column_word c k → Put c k (decimal_of col ++ (58 ∷ [])) now r → Put text at (place number col) now r
-unfolding place
-put_place number col p q o s = put_put (put_put (put_put p q) o) s
-
-length_reason : (b : Bool) → length (reason b ++ (10 ∷ [])) ≤ reason_length
-unfolding reason
-length_reason true = omega arith
-length_reason false = omega arith
-
--- the reason that is known
-pub put_reason : {text now : List ℕ} {at r : ℕ} {p : Bool} (b : Bool) → p ≡ b → Put text at (reason b ++ (10 ∷ [])) now r → Put text at (reason p ++ (10 ∷ [])) now r × (r ≤ at + reason_length)
-put_reason {text} {now} {at} {r} b e q = (
-  subst (λ (x : Bool). Put text at (reason x ++ (10 ∷ [])) now r) (sym e) q,
-  omega (arith, q.moved, length_reason b),
-)
-
-pub put_heading : {out mid now : List ℕ} {i r number col start : ℕ} {short : Bool} (text : List ℕ) (at : ℕ) → number ≡ line_number text at → start ≡ line_start text at → col ≡ at - start + 1
-    → short ≡ eqb at (length text) → Put out 0 (place number col) mid i → Put mid i (reason short ++ (10 ∷ [])) now r → Put out 0 (heading text at) now r
-unfolding heading
-put_heading {out} {mid} {now} {i} {r} {number} {col} {start} {short} text at e d f g p q =
-    let col-is : col ≡ column text at = f ∙ ap (λ (s : ℕ). at - s + 1) d in
-    put_put
-    (subst (λ (n : ℕ). Put out 0 (place n (column text at)) mid i) e (subst (λ (n : ℕ). Put out 0 (place number n) mid i) col-is p))
-    (subst (λ (b : Bool). Put mid i (reason b ++ (10 ∷ [])) now r) g q)
+-- the first line
+pub heading_is : (text a b c d e now words : List ℕ) (at number col : ℕ) → number ≡ line_number text at → col ≡ column text at → words ≡ reason (eqb at (length text))
+    → a ≡ [] ++ line_word → b ≡ a ++ (decimal_of number ++ (44 ∷ [])) → c ≡ b ++ column_word → d ≡ c ++ (decimal_of col ++ (58 ∷ [])) → e ≡ d ++ words → now ≡ e ++ (10 ∷ [])
+    → now ≡ heading text at
+unfolding heading place
+heading_is text a b c d e now words at number col n m w p q r s t u =
+    rw (sym n, sym m, sym w)
+    (both [] d now _ _ (both [] c d _ _ (both [] b c _ _ (both [] a b _ _ p q) r) s) (both d e now _ _ t u))
 
 -- all three lines
-pub put_diagnosis : {out a b c d now : List ℕ} {i j k l r start end : ℕ} (text : List ℕ) (at : ℕ) → start ≡ line_start text at → end ≡ line_end text at → Put out 0 (heading text at) a i
-    → Put a i (shown_from false text start end) b j → Put b j (10 ∷ []) c k → Put c k (shown_from true text start at) d l → Put d l (94 ∷ 10 ∷ []) now r
-    → IsPrefixLen r now × (take r now ≡ diagnosis text at)
+pub diagnosis_is : (text a b c d now : List ℕ) (at start end : ℕ) → start ≡ line_start text at → end ≡ line_end text at → a ≡ heading text at → b ≡ a ++ shown_from false text start end
+    → c ≡ b ++ (10 ∷ []) → d ≡ c ++ shown_from true text start at → now ≡ d ++ (94 ∷ 10 ∷ []) → now ≡ diagnosis text at
 unfolding diagnosis shown_line mark
-put_diagnosis {out} {a} {b} {c} {d} {now} {i} {j} {k} {l} {r} {start} {end} text at e f p q n o s =
-    let line = subst (λ (m : ℕ). Put a i (shown_from false text m (line_end text at)) b j) e (subst (λ (m : ℕ). Put a i (shown_from false text start m) b j) f q) in
-    let under = subst (λ (m : ℕ). Put c k (shown_from true text m at) d l) e o in
-    let all = put_put (put_put p (put_put line n)) (put_put under s) in
-    (put_counts all, all.holds)
+diagnosis_is text a b c d now at start end n m p q r s t =
+    rw (sym n, sym m) (both [] c now _ _ (both [] a c _ _ p (both a b c _ _ q r)) (both c d now _ _ s t))
+
+-- every item of a list written over
+pub refilled : (items now : List ℕ) (b : ℕ) → now ≡ replicate (length items) b → refill (length items) items now ≡ replicate (length items) b
+refilled items now b p =
+    let size : length now ≡ length items = ap length p ∙ length-replicate (length items) b in
+    ap (λ (n : ℕ). take n (now ++ drop (length now) items)) (sym size) ∙ take-append_seam now (drop (length now) items) ∙ p
+
+pub slice_is : (start end : ℕ) (text : List ℕ) → start ≤ end → take (end - start) (drop start text) ≡ slice start end text
+slice_is start end text h =
+    let whole : start + (end - start) ≡ end = omega arith in
+    sym (drop-take start (end - start) text) ∙ ap (λ (n : ℕ). drop start (take n text)) whole

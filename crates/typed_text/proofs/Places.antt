@@ -1,79 +1,84 @@
--- Lines and columns, byte by byte.
-use mathlib.Core.Path.{◌≡◌, refl, ◌∙◌, ap}
-use mathlib.Core.Bool.{Bool, true, false, cond, not}
-use mathlib.Core.List.{List}
-use Prim.Native.Nat.{ℕ, suc, ◌+◌, ◌≤◌, ◌<◌}
-use native.Mathlib.Omega.{arith}
+-- Lines and columns.
+use Rattle.std.proofs.Common.{◌≡◌, refl, sym, ◌∙◌, ap, subst, Bool, true, false, cond, List, [], ◌∷◌, ℕ, zero, suc, ◌+◌, ◌≤◌, ◌<◌, length, take, get_or, arith}
+use mathlib.Core.Logic.{◌⊎◌, inl, inr, ⊎_elim}
 use native.Mathlib.Numerals.{add-one}
-use borrow.Author.Tests.{le-leb, lt-leb, eq-eqb, ne_eqb, lt-ltb, le-ltb}
-use lib.Dec.{eqb}
-use lib.ListN.{length, get_or, drop_of_length-le}
-use lib.Seq.{drop-cons}
-use Rattle.io.specs.Digits.{hex_digit_ascii}
-use Rattle.typed_text.specs.Diagnosis.{is_newline, line_number, line_start, line_end, up_to_newline, plain}
+use borrow.Author.Tests.{eq-eqb, ne_eqb, eqb-true, leb-true, leb-false}
+use lib.Dec.{leb}
+use Rattle.std.specs.List.{count_by}
+use Rattle.std.proofs.lemmas.List.{get_or-take}
+use Rattle.std.proofs.lemmas.List.Sums.{count_by_more_yes, count_by_more_no}
+use lib.Seq.{take-length}
+use lib.ListN.{drop}
+use Rattle.std.proofs.Common.{◌-◌, length-drop}
+use Rattle.typed_text.specs.Diagnosis.{is_newline, line_number, line_start, up_to_newline}
 
--- what a byte that is a newline, or none, is tested to
-pub newline_is : {A : Type 0} (b : ℕ) (x y : A) → b ≡ 10 → x ≡ cond (is_newline b) x y
-newline_is b x y e = rw (eq-eqb b 10 e) refl
-
-pub newline_not : {A : Type 0} (b : ℕ) (x y : A) → (b ≡ 10 → ⊥) → y ≡ cond (is_newline b) x y
-newline_not b x y e = rw (ne_eqb b 10 e) refl
-
-one_at_most : (b : Bool) → cond b 1 0 ≤ 1
-one_at_most true = omega arith
-one_at_most false = omega arith
-
-pub number_start : (text : List ℕ) → 1 ≡ line_number text 0
+-- the newlines before an offset
+pub number_is : (text : List ℕ) (at : ℕ) → at ≤ length text → 1 + count_by is_newline (take at text) ≡ line_number text at
 unfolding line_number
-number_start text = refl
+number_is text zero h = refl
+number_is text (suc o) h = ap (λ (n : ℕ). 1 + count_by is_newline (take n text)) (sym (add-one o)) ∙ go (is_newline (get_or text o 0)) refl (number_is text o (omega arith))
+  where
+    go : (b : Bool) → is_newline (get_or text o 0) ≡ b → 1 + count_by is_newline (take o text) ≡ line_number text o → 1 + count_by is_newline (take (o + 1) text) ≡ line_number text o + cond b 1 0
+    go true t p = omega (arith, count_by_more_yes is_newline text o 0 h t, p)
+    go false t p = omega (arith, count_by_more_no is_newline text o 0 h t, p)
 
-pub number_next : {n k : ℕ} (text : List ℕ) (i : ℕ) → n ≡ line_number text i → n ≤ i + 1 → k ≡ cond (is_newline (get_or text i 0)) 1 0
-    → (n + k ≡ line_number text (i + 1)) × (n + k ≤ i + 1 + 1)
-unfolding line_number
-number_next {n} {k} text i e h d = (
-  rw (add-one i) (ap (λ (m : ℕ). m + k) e ∙ ap (λ (m : ℕ). line_number text i + m) d),
-  omega (arith, one_at_most (is_newline (get_or text i 0)), d),
+Holds : Bool → Type 0
+Holds true = Unit {0}
+Holds false = ⊥
+
+split : (i o : ℕ) → i < suc o → (i < o) ⊎ (i ≡ o)
+split i o h = go (leb o i) refl
+  where
+    go : (b : Bool) → leb o i ≡ b → (i < o) ⊎ (i ≡ o)
+    go true e = inr (omega (arith, leb-true o i e))
+    go false e = inl (leb-false o i e)
+
+start_at : (text : List ℕ) (at i : ℕ) → i < at → get_or text i 0 ≡ 10 → ((k : ℕ) → i < k → k < at → get_or text k 0 ≡ 10 → ⊥) → i + 1 ≡ line_start text at
+unfolding line_start Holds
+start_at text zero i h e f = absurd (omega arith)
+start_at text (suc o) i h e f = go (is_newline (get_or text o 0)) refl (λ l. start_at text o i l e (λ k a b. f k a (omega arith)))
+  where
+    go : (b : Bool) → is_newline (get_or text o 0) ≡ b → (i < o → i + 1 ≡ line_start text o) → i + 1 ≡ cond b (suc o) (line_start text o)
+    go true t p =
+        ⊎_elim
+        (λ (l : i < o). absurd (f o l (omega arith) (eqb-true (get_or text o 0) 10 t)))
+        (λ (s : i ≡ o). omega (arith, s))
+        (split i o h)
+    go false t p =
+        ⊎_elim
+        p
+        (λ (s : i ≡ o). absurd (subst Holds (sym (eq-eqb (get_or text o 0) 10 (ap (λ (m : ℕ). get_or text m 0) (sym s) ∙ e)) ∙ t) tt))
+        (split i o h)
+
+-- behind the last newline before an offset
+pub start_found : (text : List ℕ) (at i : ℕ) → i < at → get_or (take at text) i 0 ≡ 10 → ((k : ℕ) → i < k → k < at → get_or (take at text) k 0 ≡ 10 → ⊥)
+    → (i + 1 ≡ line_start text at) × (i + 1 ≤ at)
+start_found text at i h e f = (
+  start_at text at i h (sym (get_or-take at text i 0 h) ∙ e) (λ k a b g. f k a b (get_or-take at text k 0 b ∙ g)),
+  omega arith,
 )
 
-pub start_start : (text : List ℕ) → 0 ≡ line_start text 0
+start_of_text : (text : List ℕ) (at : ℕ) → ((k : ℕ) → k < at → get_or text k 0 ≡ 10 → ⊥) → 0 ≡ line_start text at
 unfolding line_start
-start_start text = refl
+start_of_text text zero f = refl
+start_of_text text (suc o) f = rw (ne_eqb (get_or text o 0) 10 (f o (omega arith))) (start_of_text text o (λ k a. f k (omega arith)))
 
-within_next : (b : Bool) (i s : ℕ) → s ≤ i → cond b (i + 1) s ≤ i + 1
-within_next true i s h = omega arith
-within_next false i s h = omega arith
+-- or where the text begins
+pub start_none : (text : List ℕ) (at : ℕ) → ((k : ℕ) → k < at → get_or (take at text) k 0 ≡ 10 → ⊥) → (0 ≡ line_start text at) × (0 ≤ at)
+start_none text at f = (start_of_text text at (λ k a g. f k a (get_or-take at text k 0 a ∙ g)), omega arith)
 
-pub start_next : {s r i : ℕ} (text : List ℕ) → s ≡ line_start text i → s ≤ i → r ≡ cond (is_newline (get_or text i 0)) (i + 1) s
-    → (r ≡ line_start text (i + 1)) × (r ≤ i + 1)
-unfolding line_start
-start_next {s} {r} {i} text e h d = (
-  rw (add-one i) (d ∙ ap (λ (m : ℕ). cond (is_newline (get_or text i 0)) m s) (add-one i) ∙ ap (λ (m : ℕ). cond (is_newline (get_or text i 0)) (suc i) m) e),
-  omega (arith, within_next (is_newline (get_or text i 0)) i s h, d),
-)
+pub rest_is : (text : List ℕ) (at : ℕ) → take (length text - at) (drop at text) ≡ drop at text
+rest_is text at = ap (λ (n : ℕ). take n (drop at text)) (sym (length-drop at text)) ∙ take-length (drop at text)
 
-pub end_newline : (text : List ℕ) (i : ℕ) → i < length text → get_or text i 0 ≡ 10 → line_end text i ≡ i
+-- a line up to its newline
+pub end_found : (rest : List ℕ) (n : ℕ) → n < length rest → get_or rest n 0 ≡ 10 → ((k : ℕ) → k < n → get_or rest k 0 ≡ 10 → ⊥) → n ≡ length (up_to_newline rest)
 unfolding up_to_newline
-end_newline text i h e = rw (drop-cons text i 0 h, eq-eqb (get_or text i 0) 10 e) (omega arith)
+end_found [] n h e f = absurd (omega arith)
+end_found (b ∷ rest) zero h e f = rw (eq-eqb b 10 e) refl
+end_found (b ∷ rest) (suc n) h e f = rw (ne_eqb b 10 (f 0 (omega arith))) (ap suc (end_found rest n (omega arith) e (λ k a. f (suc k) (omega arith))))
 
-pub end_next : (text : List ℕ) (i : ℕ) → i < length text → (get_or text i 0 ≡ 10 → ⊥) → line_end text (i + 1) ≡ line_end text i
+-- or to the text's end
+pub end_none : (rest : List ℕ) → ((k : ℕ) → k < length rest → get_or rest k 0 ≡ 10 → ⊥) → length rest ≡ length (up_to_newline rest)
 unfolding up_to_newline
-end_next text i h e = rw (drop-cons text i 0 h, ne_eqb (get_or text i 0) 10 e, add-one i) (omega arith)
-
-pub end_over : (text : List ℕ) (i : ℕ) → length text ≤ i → line_end text i ≡ i
-unfolding up_to_newline
-end_over text i h = rw (drop_of_length-le text h) (omega arith)
-
-pub plain_low : (b : ℕ) → b < 32 → false ≡ plain b
-plain_low b h = rw (lt-leb 32 b h) refl
-
-pub plain_high : (b : ℕ) → 32 ≤ b → 126 < b → false ≡ plain b
-plain_high b h k = rw (le-leb 32 b h, lt-leb b 126 k) refl
-
-pub plain_between : (b : ℕ) → 32 ≤ b → b ≤ 126 → not (eqb b 92) ≡ plain b
-plain_between b h k = rw (le-leb 32 b h, le-leb b 126 k) refl
-
-pub glyph_low : (n : ℕ) → n < 10 → 48 + n ≡ hex_digit_ascii n
-glyph_low n h = rw (lt-ltb n 10 h) refl
-
-pub glyph_high : (n r : ℕ) → 10 ≤ n → r ≡ 87 + n → r ≡ hex_digit_ascii n
-glyph_high n r h e = rw (le-ltb n 10 h) e
+end_none [] f = refl
+end_none (b ∷ rest) f = rw (ne_eqb b 10 (f 0 (omega arith))) (ap suc (end_none rest (λ k a. f (suc k) (omega arith))))

@@ -1,19 +1,18 @@
 // Typed rules: the eight lines of a text, and where it is garbled, as a compiler says it.
 #![tactic(auto)]
 
-ghost use Rattle.std.specs.Prelude.{◌≡◌, [], ◌∷◌, ◌++◌, ◌+◌, ◌-◌, ◌*◌, ◌≤◌, ◌<◌, cond, length, take};
-ghost use Rattle.io.specs.Counts.{IsPrefixLen};
-ghost use Rattle.io.specs.Digits.{hex_digit_ascii};
+ghost use Rattle.std.specs.Prelude.{◌≡◌, List, ℕ, [], ◌∷◌, ◌++◌, ◌+◌, ◌-◌, ◌*◌, ◌≤◌, ◌<◌, Err, IfErr, length};
+ghost use Rattle.arrayvec.specs.ArrayVec.{array_vec_len};
 ghost use Rattle.definition.specs.Limits.{record_length, most_text};
-ghost use Rattle.slices.specs.Text.{decimal_of};
-ghost use Rattle.frames.specs.Put.{Put, number_length};
-ghost use Rattle.frames.specs.Lines.{eight_lines};
-ghost use Rattle.typed_text.specs.Diagnosis.{is_newline, line_number, line_start, line_end, plain, shown, blank, shown_as, shown_from, reason, place, heading, diagnosis, shown_length, place_length, reason_length, heading_length};
-ghost use Rattle.typed_text.specs.Showing.{ShownAs, Stand, Kept, Runs};
+ghost use Rattle.definition.specs.Lists.{concat_map};
+ghost use Rattle.typed_text.specs.Diagnosis.{line_number, line_start, line_end, plain, shown, blank, reason, heading, diagnosis, shown_length, place_length, reason_length, diagnosis_length};
+ghost use Rattle.typed_text.specs.Showing.{ShownAs, offset_of, Runs};
 
-use frames::{Ran, TextBytes, lines, print, put_at, put_number_at, refusal_lines, write_error};
-use limits::{MOST_TEXT, RECORD_LENGTH, TEXT_TOO_LONG, TEXT_TRAY_LENGTH, UNREADABLE_TEXT};
-use reader::{Reading, read_text};
+use arrayvec::ArrayVec;
+use frames::{Lines, RunError, Taken, append, append_number, lines, print, refusal_lines, report};
+use limits::{MOST_TEXT, RECORD_LENGTH, TEXT_TRAY_LENGTH};
+use reader::{TextError, read_text};
+use refusal::Refusal;
 use std::io::{Read, Write};
 
 // One byte more than the longest text: it tells that a text is too long.
@@ -27,56 +26,27 @@ const HEADING_LENGTH: usize = 96;
 
 pub const DIAGNOSIS_LENGTH: usize = HEADING_LENGTH + 2 * SHOWN_LENGTH * MOST_TEXT;
 
-pub type KeptBytes = [u8; KEPT_LENGTH];
+// What is kept of an input.
+pub type Kept = ArrayVec<u8, KEPT_LENGTH>;
 
-pub type DiagnosisBytes = [u8; DIAGNOSIS_LENGTH];
+pub type Diagnosis = ArrayVec<u8, DIAGNOSIS_LENGTH>;
 
-// What is printed of a text: so many bytes, and of a garbled one the offset too.
-#[derive(Clone, Copy)]
-pub enum Shown {
-    Lines { printed: usize },
-    Unreadable { printed: usize, at: usize },
-}
+type Glyph = ArrayVec<u8, SHOWN_LENGTH>;
 
-// What came of reading: an error, or how many bytes are kept.
-#[derive(Clone, Copy)]
-enum Input {
-    Failed,
-    Seen { seen: usize },
-}
-
-// How many newlines a byte is.
-fn newlines(b: u8) -> usize
-    ensures { result ≡ cond (is_newline b) 1 0 }
-{
-    if b == b'\n' {
-        return 1;
-    }
-    0
+// What is printed of a text, and of a garbled one the offset too.
+#[derive(Drop)]
+pub struct Shown {
+    pub lines: Lines,
+    pub unreadable_at: Option<u16>,
 }
 
 // The number of the line in which an offset stands.
 fn line_number(text: &[u8], at: usize) -> usize
     requires { at ≤ length text.now }
-    ensures { result ≡ line_number text.now at }
+    ensures value { result ≡ line_number text.now at }
+    ensures upper_bound { result ≤ at + 1 }
 {
-    let mut number: usize = 1;
-    let mut i: usize = 0;
-    while i < at {
-        number += newlines(text[i]);
-        i += 1;
-    }
-    number
-}
-
-// Where a line begins after a byte: behind it if it is a newline.
-fn start_after(start: usize, b: u8, next: usize) -> usize
-    ensures { result ≡ cond (is_newline b) next start }
-{
-    if b == b'\n' {
-        return next;
-    }
-    start
+    1 + text[..at].iter().filter(|&&b| b == b'\n').count()
 }
 
 // Where the line begins in which an offset stands.
@@ -84,13 +54,10 @@ fn line_start(text: &[u8], at: usize) -> usize
     requires { at ≤ length text.now }
     ensures { (result ≡ line_start text.now at) × (result ≤ at) }
 {
-    let mut start: usize = 0;
-    let mut i: usize = 0;
-    while i < at {
-        start = start_after(start, text[i], i + 1);
-        i += 1;
+    match text[..at].iter().rposition(|&b| b == b'\n') {
+        Some(newline) => newline + 1,
+        None => 0,
     }
-    start
 }
 
 // Where this line ends.
@@ -98,302 +65,205 @@ fn line_end(text: &[u8], at: usize) -> usize
     requires { at ≤ length text.now }
     ensures { (result ≡ line_end text.now at) × (at ≤ result) × (result ≤ length text.now) }
 {
-    let mut i = at;
-    while i < text.len() {
-        if text[i] == b'\n' {
-            return i;
-        }
-        i += 1;
+    match text[at..].iter().position(|&b| b == b'\n') {
+        Some(length) => at + length,
+        None => text.len(),
     }
-    i
 }
 
 // Whether a byte prints as itself.
 fn is_plain(b: u8) -> bool
     ensures { result ≡ plain b }
 {
-    if b < b' ' {
-        return false;
-    }
-    if b'~' < b {
-        return false;
-    }
-    b != b'\\'
-}
-
-// A hexadecimal digit.
-fn digit(n: u8) -> u8
-    requires { n < 16 }
-    ensures { result ≡ hex_digit_ascii n }
-{
-    if n < 10 {
-        return b'0' + n;
-    }
-    b'a' + (n - 10)
-}
-
-// Bytes put at a position; the position after them.
-fn put(out: &mut [u8], at: usize, bytes: &[u8]) -> usize
-    requires { at + length bytes.now ≤ length out.old }
-    ensures { Put out.old at bytes.now out.new result }
-{
-    put_at(out, at, bytes)
-}
-
-// A number and the byte after it.
-fn put_number(out: &mut [u8], at: usize, n: u64, after: u8) -> usize
-    requires { at + number_length ≤ length out.old }
-    ensures put { Put out.old at (decimal_of n ++ (after ∷ [])) out.new result }
-    ensures upper_bound { result ≤ at + number_length }
-{
-    put_number_at(out, at, n, after)
+    b' ' <= b && b <= b'~' && b != b'\\'
 }
 
 // A byte as it is shown.
-fn put_shown(out: &mut [u8], at: usize, b: u8) -> usize
-    requires { at + shown_length ≤ length out.old }
-    ensures put { Put out.old at (shown b) out.new result }
-    ensures upper_bound { result ≤ at + shown_length }
+fn shown_byte(b: u8) -> Glyph
+    ensures { result.items ≡ shown b }
 {
+    let mut glyph = Glyph::new();
     if is_plain(b) {
-        return put(out, at, &[b]);
+        glyph.push(b);
+        return glyph;
     }
-    put(out, at, &[b'\\', b'x', digit(b / 16), digit(b % 16)])
+    let mut digits = [0u8; 16];
+    let count = io::hex(b as u64, 2, &mut digits);
+    append(&mut glyph, b"\\x");
+    append(&mut glyph, &digits[..count]);
+    glyph
 }
 
-// Spaces in its place.
-fn put_blank(out: &mut [u8], at: usize, b: u8) -> usize
-    requires { at + shown_length ≤ length out.old }
-    ensures put { Put out.old at (blank b) out.new result }
-    ensures upper_bound { result ≤ at + shown_length }
+// Spaces in its place, one for each character.
+fn blank_byte(b: u8) -> Glyph
+    ensures { result.items ≡ blank b }
 {
-    if is_plain(b) {
-        return put(out, at, b" ");
+    let mut spaces = shown_byte(b);
+    spaces.fill(b' ');
+    spaces
+}
+
+// Appends what is made of each byte.
+fn append_each<F: Fn(u8) -> Glyph>(out: &mut Diagnosis, bytes: &[u8], glyph: F)
+    requires callable { F.IsAlwaysCallable glyph }
+    requires room { array_vec_len out.old + shown_length * length bytes.now ≤ diagnosis_length }
+    ensures items { (glyphs : ℕ → List ℕ) → ((b : ℕ) (r : _) → b < 256 → F.post glyph b r → r.items ≡ glyphs b) → out.new.items ≡ out.old.items ++ concat_map glyphs bytes.now }
+    ensures len { array_vec_len out.new ≤ array_vec_len out.old + shown_length * length bytes.now }
+{
+    for &b in bytes {
+        append(out, &glyph(b));
     }
-    put(out, at, b"    ")
 }
 
-// One or the other.
-fn put_byte(out: &mut [u8], at: usize, b: u8, blanks: bool) -> usize
-    requires { at + shown_length ≤ length out.old }
-    ensures put { Put out.old at (shown_as blanks b) out.new result }
-    ensures upper_bound { result ≤ at + shown_length }
-{
-    if blanks {
-        return put_blank(out, at, b);
-    }
-    put_shown(out, at, b)
-}
-
-// The bytes of a text from one offset to another, as they are shown, or as spaces.
-fn put_bytes(
-    out: &mut [u8],
-    at: usize,
-    text: &[u8],
-    start: usize,
-    end: usize,
-    blanks: bool,
-) -> usize
-    requires { (start ≤ end) × (end ≤ length text.now) × (at + shown_length * (end - start) ≤ length out.old) }
-    ensures put { Put out.old at (shown_from blanks text.now start end) out.new result }
-    ensures upper_bound { result ≤ at + shown_length * (end - start) }
-{
-    let mut to = at;
-    let mut i = start;
-    while i < end {
-        to = put_byte(out, to, text[i], blanks);
-        i += 1;
-    }
-    to
-}
-
-// The line's number and the column.
-fn put_place(out: &mut [u8], at: usize, number: usize, column: usize) -> usize
-    requires { at + place_length ≤ length out.old }
-    ensures put { Put out.old at (place number column) out.new result }
-    ensures upper_bound { result ≤ at + place_length }
-{
-    let a = put(out, at, b"line ");
-    let b = put_number(out, a, number as u64, b',');
-    let c = put(out, b, b" column ");
-    put_number(out, c, column as u64, b':')
-}
-
-// What is wrong, and the end of the line.
-fn put_reason(out: &mut [u8], at: usize, short: bool) -> usize
-    requires { at + reason_length ≤ length out.old }
-    ensures put { Put out.old at (reason short ++ (10 ∷ [])) out.new result }
-    ensures upper_bound { result ≤ at + reason_length }
+// What is wrong.
+#[tactic(auto, unfolding(crate::specs::Diagnosis::reason))]
+fn reason(short: bool) -> &'static [u8]
+    ensures value { result.now ≡ reason short }
+    ensures len { length result.now < reason_length }
 {
     if short {
-        return put(out, at, b" the text ends short\n");
+        b" the text ends short"
+    } else {
+        b" this can't continue a text"
     }
-    put(out, at, b" this can't continue a text\n")
 }
 
-// The first line of a diagnosis.
-fn put_heading(out: &mut [u8], text: &[u8], at: usize, start: usize) -> usize
-    requires at_in_bounds { (at ≤ length text.now) × (at ≤ most_text) × (start ≤ at) × (heading_length ≤ length out.old) }
+// The first line of a diagnosis, of a line that begins at `start`.
+fn heading(text: &[u8], at: usize, start: usize) -> Diagnosis
+    requires at_in_bounds { (at ≤ length text.now) × (at ≤ most_text) × (start ≤ at) }
     requires start_value { start ≡ line_start text.now at }
-    ensures put { Put out.old 0 (heading text.now at) out.new result }
-    ensures upper_bound { result ≤ place_length + reason_length }
+    ensures items { result.items ≡ heading text.now at }
+    ensures len { array_vec_len result ≤ place_length + reason_length }
 {
-    let number = line_number(text, at);
-    let a = put_place(out, 0, number, at - start + 1);
-    put_reason(out, a, at == text.len())
+    let mut out = Diagnosis::new();
+    append(&mut out, b"line ");
+    append_number(&mut out, line_number(text, at) as u64, b',');
+    append(&mut out, b" column ");
+    append_number(&mut out, (at - start + 1) as u64, b':');
+    append(&mut out, reason(at == text.len()));
+    append(&mut out, b"\n");
+    out
 }
 
 // Where a text is garbled, as a compiler says it: a line with the place, the text's line, a mark under
-// the place. How many bytes that is.
-fn diagnose(out: &mut DiagnosisBytes, text: &[u8], at: usize) -> usize
+// the place.
+fn diagnose(text: &[u8], at: usize) -> Diagnosis
     requires { (at ≤ length text.now) × (length text.now ≤ most_text) }
-    ensures prefix_len { IsPrefixLen result out.new }
-    ensures out_after { take result out.new ≡ diagnosis text.now at }
+    ensures { result.items ≡ diagnosis text.now at }
 {
     let start = line_start(text, at);
     let end = line_end(text, at);
-    let a = put_heading(out, text, at, start);
-    let b = put_bytes(out, a, text, start, end, false);
-    let c = put(out, b, b"\n");
-    let d = put_bytes(out, c, text, start, at, true);
-    put(out, d, b"^\n")
+    let mut out = heading(text, at, start);
+    append_each(&mut out, &text[start..end], shown_byte);
+    append(&mut out, b"\n");
+    append_each(&mut out, &text[start..at], blank_byte);
+    append(&mut out, b"^\n");
+    out
 }
 
-// The same of any text and offset: nothing, 0, of a text that is too long or an offset beyond it.
-pub fn diagnosis(out: &mut DiagnosisBytes, text: &[u8], at: usize) -> usize
-    ensures prefix_len { IsPrefixLen result out.new }
-    ensures out_after { at ≤ length text.now → length text.now ≤ most_text → take result out.new ≡ diagnosis text.now at }
-    ensures value { length text.now < at → result ≡ 0 }
-    ensures value_2 { most_text < length text.now → result ≡ 0 }
+// The same of any text and offset: nothing of a text that is too long or an offset beyond it.
+pub fn diagnosis(text: &[u8], at: usize) -> Diagnosis
+    ensures items { at ≤ length text.now → length text.now ≤ most_text → result.items ≡ diagnosis text.now at }
+    ensures beyond { length text.now < at → result.items ≡ [] }
+    ensures long { most_text < length text.now → result.items ≡ [] }
 {
-    if text.len() < at {
-        return 0;
+    if text.len() < at || MOST_TEXT < text.len() {
+        return Diagnosis::new();
     }
-    if MOST_TEXT < text.len() {
-        return 0;
-    }
-    diagnose(out, text, at)
+    diagnose(text, at)
 }
 
-// The eight lines of the first records of a tray.
-fn tray_lines(text: &mut TextBytes, tray: &[u8], count: u16) -> usize
-    requires { record_length * count ≤ length tray.now }
-    ensures prefix_len { IsPrefixLen result text.new }
-    ensures text_after { take result text.new ≡ eight_lines (take (record_length * count) tray.now) }
+// The offset of a text that is garbled.
+fn offset_of(error: TextError) -> Option<u16>
+    ensures { result ≡ offset_of error }
 {
-    let n = RECORD_LENGTH * count as usize;
-    lines(text, &tray[..n])
+    match error {
+        TextError::Unreadable { at } => Some(at),
+        _ => None,
+    }
 }
 
 // The eight lines of typed rules. "Short tray" does not arise: the tray here is long enough.
-pub fn show(text: &mut TextBytes, rules: &[u8]) -> Shown
-    ensures { ShownAs rules.now text.new result }
+pub fn show(rules: &[u8]) -> Shown
+    ensures { ShownAs rules.now result.lines.items result.unreadable_at }
 {
     let mut tray = [0u8; TEXT_TRAY_LENGTH];
-    let reading = read_text(rules, &mut tray);
-    match reading {
-        Reading::ShortTray => Shown::Lines { printed: 0 },
-        Reading::LongText => Shown::Lines {
-            printed: refusal_lines(text, TEXT_TOO_LONG, 0),
+    match read_text(rules, &mut tray) {
+        Ok(count) => Shown {
+            lines: lines(&tray[..RECORD_LENGTH * count as usize]),
+            unreadable_at: None,
         },
-        Reading::Unreadable { at } => Shown::Unreadable {
-            printed: refusal_lines(text, UNREADABLE_TEXT, at as u16),
-            at: at,
-        },
-        Reading::Taken { count } => Shown::Lines {
-            printed: tray_lines(text, &tray, count),
+        Err(error) => Shown {
+            lines: refusal_lines(Refusal::from(error)),
+            unreadable_at: offset_of(error),
         },
     }
 }
 
 // Reads the input until it ends or as many bytes are kept as have room.
-fn read_all<R: Read>(input: &mut R, kept: &mut [u8]) -> Input
-    ensures { Kept kept.new result }
+fn read_all<R: Read>(input: &mut R, kept: &mut Kept) -> Result<(), RunError>
+    ensures { IfErr result (λ error. error ≡ RunError.ReadFailed) }
 {
-    let mut seen: usize = 0;
-    while seen < kept.len() {
-        match input.read(&mut kept[seen..]) {
-            Err(_) => return Input::Failed,
-            Ok(0) => return Input::Seen { seen },
-            Ok(n) => seen += n,
+    let mut part = [0u8; KEPT_LENGTH];
+    kept.clear();
+    while !kept.is_full() {
+        let room = kept.remaining_capacity();
+        match input.read(&mut part[..room]) {
+            Ok(0) => return Ok(()),
+            Ok(n) => append(kept, &part[..n]),
+            Err(_) => return Err(RunError::ReadFailed),
         }
     }
-    Input::Seen { seen }
+    Ok(())
 }
 
-// Writes where a text is garbled.
-fn report<E: Write>(errors: &mut E, rules: &[u8], at: usize)
+// Writes where a text is garbled; an error is let go, since there is nowhere left to report it.
+fn report_place<E: Write>(errors: &mut E, rules: &[u8], at: usize)
     requires { (at ≤ length rules.now) × (length rules.now ≤ most_text) }
 {
-    let mut out = [0u8; DIAGNOSIS_LENGTH];
-    let n = diagnose(&mut out, rules, at);
-    write_error(errors, &out[..n]);
+    let _ = errors.write_all(&diagnose(rules, at));
 }
 
-// The lines of the bytes kept; of a garbled text, on `errors`, also where it is.
-fn answer_text<E: Write>(errors: &mut E, kept: &[u8], seen: usize, text: &mut TextBytes) -> usize
-    requires { IsPrefixLen seen kept.now }
-    ensures { Stand (take seen kept.now) text.new result }
-{
-    let rules = &kept[..seen];
-    let shown = show(text, rules);
-    match shown {
-        Shown::Lines { printed } => printed,
-        Shown::Unreadable { printed, at } => {
-            report(errors, rules, at);
-            printed
-        }
-    }
-}
-
-// Reads the input and prints its eight lines. An error is reported on `errors`; after a read error
-// nothing is printed on `output`.
+// Reads the input and prints its eight lines; of a garbled text, on `errors`, also where it is.
 fn answer_input<R: Read, W: Write, E: Write>(
     input: &mut R,
     output: &mut W,
     errors: &mut E,
-    kept: &mut KeptBytes,
-    text: &mut TextBytes,
-) -> Ran
-    ensures { Runs kept.new text.new result }
+    kept: &mut Kept,
+    text: &mut Lines,
+) -> Result<(), RunError>
+    ensures { Runs kept.new.items text.new.items result }
 {
-    match read_all(input, kept) {
-        Input::Failed => {
-            write_error(errors, b"standard input cannot be read\n");
-            Ran::ReadFailed
-        }
-        Input::Seen { seen } => {
-            let printed = answer_text(errors, kept, seen, text);
-            if print(output, text, printed) {
-                return Ran::Done { seen, printed };
-            }
-            write_error(errors, b"standard output cannot be written\n");
-            Ran::WriteFailed { seen, printed }
-        }
+    read_all(input, kept)?;
+    let shown = show(kept);
+    if let Some(at) = shown.unreadable_at {
+        report_place(errors, kept, at as usize);
     }
+    *text = shown.lines;
+    print(output, text)
 }
 
 // The program, started with so many words, its own name among them: `input`, `output` and `errors`
-// are the standard ones. With a further word nothing is read or printed; it is reported on `errors`.
+// are the standard ones. With a further word nothing is read or printed. An error is reported on
+// `errors`; after a read error nothing is printed on `output`.
 pub fn run<R: Read, W: Write, E: Write>(
     words: usize,
     input: &mut R,
     output: &mut W,
     errors: &mut E,
-    kept: &mut KeptBytes,
-    text: &mut TextBytes,
-) -> Ran
-    ensures value { 1 < words → result ≡ Ran.ArgumentGiven }
+    kept: &mut Kept,
+    text: &mut Lines,
+) -> Result<(), RunError>
+    ensures value { 1 < words → result ≡ Err (RunError.ArgumentGiven Taken.TypedRules) }
     ensures kept_unchanged { 1 < words → kept.new ≡ kept.old }
     ensures text_unchanged { 1 < words → text.new ≡ text.old }
-    ensures runs { words ≤ 1 → Runs kept.new text.new result }
+    ensures runs { words ≤ 1 → Runs kept.new.items text.new.items result }
 {
-    if 1 < words {
-        write_error(
-            errors,
-            b"no arguments are taken: typed rules come on standard input (README.md)\n",
-        );
-        return Ran::ArgumentGiven;
-    }
-    answer_input(input, output, errors, kept, text)
+    let outcome = if 1 < words {
+        Err(RunError::ArgumentGiven(Taken::TypedRules))
+    } else {
+        answer_input(input, output, errors, kept, text)
+    };
+    report(errors, &outcome);
+    outcome
 }

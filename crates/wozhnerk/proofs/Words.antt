@@ -1,10 +1,10 @@
 -- The answer in one number, and what it says.
 use mathlib.Core.Path.{◌≡◌, refl, ap, ◌∙◌}
-use mathlib.Core.Bool.{Bool, true, false, cond}
+use mathlib.Core.Bool.{Bool, true, false}
 use Prim.Native.Nat.{ℕ, ◌≤◌, ◌<◌, ◌+◌, ◌*◌, ◌/◌, ◌%◌}
 use native.Mathlib.Omega.{arith}
 use lib.Dec.{eqb}
-use Rattle.definition.proofs.Basics.Lists.{bit_low}
+use Rattle.std.specs.Int.{from_bool}
 use Rattle.definition.specs.Call.{refusal, verdict}
 use Rattle.wozhnerk.specs.Word.{read}
 
@@ -23,17 +23,21 @@ low_16 x y h = omega (arith, h)
 low_8 : (x y : ℕ) → x ≤ 255 → (x + y * 256) % 256 ≡ x
 low_8 x y h = omega (arith, h)
 
-bit_read : (b : Bool) → eqb (cond b 1 0) 1 ≡ b
+bit_read : (b : Bool) → eqb (from_bool b) 1 ≡ b
 bit_read true = refl
 bit_read false = refl
 
+bit_low : (b : Bool) → from_bool b ≤ 1
+bit_low true = omega arith
+bit_low false = omega arith
+
 module _ (proved late : Bool) (i f s v : ℕ) (hi : i < 65536) (hf : f < 65536) (hs : s < 65536) (hv : v ≤ 255) where
-  pub read_verdict : read (i + f * 65536 + s * 4294967296 + v * 281474976710656 + cond proved 1 0 * 72057594037927936 + cond late 1 0 * 144115188075855872) ≡
+  pub read_verdict : read (i + f * 65536 + s * 4294967296 + v * 281474976710656 + from_bool proved * 72057594037927936 + from_bool late * 144115188075855872) ≡
       verdict (record { proved = proved; late = late; identifiers = i; formulas = f; worlds = v; steps = s })
   unfolding read
   read_verdict =
-      let p : ℕ = cond proved 1 0 in
-      let l : ℕ = cond late 1 0 in
+      let p : ℕ = from_bool proved in
+      let l : ℕ = from_bool late in
       let hp : p ≤ 1 = bit_low proved in
       let hl : l ≤ 1 = bit_low late in
       let w = i + f * 65536 + s * 4294967296 + v * 281474976710656 + p * 72057594037927936 + l * 144115188075855872 in

@@ -1,49 +1,62 @@
 // The functions for C and Rust, and the number in which they answer. `wozhnerk_c` exports them.
 #![tactic(auto)]
 
-ghost use Rattle.std.specs.Prelude.{◌≡◌, cond, ◌≤◌};
+ghost use Rattle.std.specs.Prelude.{◌≡◌, ◌≤◌, Ok, Err};
 ghost use Rattle.prover.specs.Contract.{trays, Contract};
 ghost use Rattle.prover.specs.Said.{said};
 ghost use Rattle.typed.specs.Contract.{TypedContract};
 ghost use Rattle.wozhnerk.specs.Word.{read, worlds_of};
 
-use prover::{Answer, prove};
+use prover::{Verdict, prove};
+use refusal::Refusal;
 use typed::prove_typed;
 
-fn bit(b: bool) -> u64
-    ensures value { result ≡ cond b 1 0 }
-    ensures upper_bound { result ≤ 1 }
+// The lowest bit of each part of the number.
+const NUMBER: u64 = 1 << 16;
+
+const FORMULAS: u64 = 1 << 16;
+
+const STEPS: u64 = 1 << 32;
+
+const WORLDS: u64 = 1 << 48;
+
+const PROVED: u64 = 1 << 56;
+
+const LATE: u64 = 1 << 57;
+
+const REFUSED: u64 = 1 << 63;
+
+// A refusal in one number.
+fn refusal_word(refusal: Refusal) -> u64
+    ensures { read result ≡ said (Err refusal) }
 {
-    if b {
-        return 1;
+    let number = u16::from(refusal.reason);
+    u64::from(refusal.place) + u64::from(number) * NUMBER + REFUSED
+}
+
+// A verdict in one number.
+fn verdict_word(verdict: Verdict) -> u64
+    ensures { verdict.worlds ≤ 255 → read result ≡ said (Ok verdict) }
+{
+    if 255 < verdict.worlds {
+        return 0;
     }
-    0
+    let identifiers = u64::from(verdict.identifiers);
+    let formulas = u64::from(verdict.formulas) * FORMULAS;
+    let steps = u64::from(verdict.steps) * STEPS;
+    let worlds = u64::from(verdict.worlds) * WORLDS;
+    let proved = u64::from(verdict.proved) * PROVED;
+    let late = u64::from(verdict.late) * LATE;
+    identifiers + formulas + steps + worlds + proved + late
 }
 
 // The answer in one number.
-fn word(x: Answer) -> u64
-    ensures { worlds_of (said x) ≤ 255 → read result ≡ said x }
+fn word(answer: Result<Verdict, Refusal>) -> u64
+    ensures { worlds_of (said answer) ≤ 255 → read result ≡ said answer }
 {
-    match x {
-        Answer::Refusal { number, place } => {
-            place as u64 + number as u64 * 65536 + 9223372036854775808
-        }
-        Answer::Verdict {
-            proved,
-            late,
-            identifiers,
-            formulas,
-            worlds,
-            steps,
-        } => {
-            if 255 < worlds {
-                return 0;
-            }
-            let counts = identifiers as u64 + formulas as u64 * 65536 + steps as u64 * 4294967296;
-            let p = bit(proved) * 72057594037927936;
-            let l = bit(late) * 144115188075855872;
-            counts + worlds as u64 * 281474976710656 + p + l
-        }
+    match answer {
+        Ok(verdict) => verdict_word(verdict),
+        Err(refusal) => refusal_word(refusal),
     }
 }
 
@@ -57,8 +70,7 @@ pub fn wozhnerk_prove(
 ) -> u64
     ensures { Contract branch.now flags (trays node_tray.old formula_tray.old edge_tray.old) (read result) (trays node_tray.new formula_tray.new edge_tray.new) }
 {
-    let x = prove(branch, flags, node_tray, formula_tray, edge_tray);
-    word(x)
+    word(prove(branch, flags, node_tray, formula_tray, edge_tray))
 }
 
 // The typed call for C and Rust.
@@ -72,6 +84,6 @@ pub fn wozhnerk_prove_typed(
 ) -> u64
     ensures { TypedContract text.now flags text_tray.old (trays node_tray.old formula_tray.old edge_tray.old) (read result) text_tray.new (trays node_tray.new formula_tray.new edge_tray.new) }
 {
-    let x = prove_typed(text, flags, text_tray, node_tray, formula_tray, edge_tray);
-    word(x)
+    let answer = prove_typed(text, flags, text_tray, node_tray, formula_tray, edge_tray);
+    word(answer)
 }

@@ -4,21 +4,21 @@ use Rattle.definition.specs.Records.{arity, kind_of, number_of}
 use Rattle.checks.proofs.Bytes.{links_in, links_unknown}
 use Rattle.checks.proofs.link_count.Goals as goal
 
-pub returns-then-kind-eq0 : goal.returns-then-kind-eq0
+pub returns-in-1 : goal.returns-in-1
 unfolding arity kind_of number_of
-returns-then-kind-eq0 c = rw c.if-kind-eq0.true
+returns-in-1 c = links_in 1 1 2 refl _ (omega arith) (omega arith)
 
-pub returns-then-kind-eq1 : goal.returns-then-kind-eq1
+pub returns-in-2-to-6 : goal.returns-in-2-to-6
 unfolding arity kind_of number_of
-returns-then-kind-eq1 c = rw c.if-kind-eq1.true
+returns-in-2-to-6 c = links_in 2 2 7 refl _ (omega arith) (omega arith)
 
-pub returns-then-kind-le6 : goal.returns-then-kind-le6
+pub returns-in-7 : goal.returns-in-7
 unfolding arity kind_of number_of
-returns-then-kind-le6 c = links_in _ 2 7 refl c.args.kind (omega arith) (omega arith)
+returns-in-7 c = links_in 1 7 9 refl _ (omega arith) (omega arith)
 
-pub returns-then-kind-le8 : goal.returns-then-kind-le8
+pub returns-in_default : goal.returns-in_default
 unfolding arity kind_of number_of
-returns-then-kind-le8 c = links_in _ 7 9 refl c.args.kind (omega arith) (omega arith)
+returns-in_default c = links_in 0 0 1 refl _ (omega arith) (omega arith)
 
-pub returns : goal.returns
-returns c = links_unknown _ c.if-kind-le8.false
+pub returns-in_default-2 : goal.returns-in_default-2
+returns-in_default-2 c = links_unknown _ (omega arith)

@@ -4,7 +4,3 @@ use Rattle.contradictions.proofs.find_earlier.Goals as goal
 pub returns-then-is_no_literal : goal.returns-then-is_no_literal
 returns-then-is_no_literal c = λ rs ns p b e z.
     no_literal rs ns _ (claims_as rs (c.formula_of.ensures ns z) (c.claim_of-c.ensures rs p b)) c.is_no_literal.ensures c.if-is_no_literal.true
-
-pub returns : goal.returns
-returns c = λ rs ns p b e z.
-    c.find_above.ensures rs ns (claims_as rs (c.formula_of.ensures ns z) (c.claim_of-c.ensures rs p b)) p b e z

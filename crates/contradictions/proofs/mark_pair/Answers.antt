@@ -1,10 +1,11 @@
+use mathlib.Core.Path.{refl}
 use Rattle.definition.specs.Contradiction.{mark}
 use Rattle.contradictions.proofs.mark_pair.Goals as goal
 
-pub returns-in-None : goal.returns-in-None
+pub returns-in-Some : goal.returns-in-Some
 unfolding mark
-returns-in-None c = λ ns p. rw c.in-None.is p
+returns-in-Some c = (c.mark_child_node_as_contradictory.ensures.0, λ ns p. rw c.in-Some.is (c.mark_child_node_as_contradictory.ensures.1 ns p))
 
-pub returns-in-Between : goal.returns-in-Between
+pub returns-in_default : goal.returns-in_default
 unfolding mark
-returns-in-Between c = λ ns p. rw c.in-Between.is (c.mark_child_node_as_contradictory.ensures ns p)
+returns-in_default c = (refl, λ ns p. rw c.in_default.is p)

@@ -1,14 +1,9 @@
-use mathlib.Core.Path.{subst}
-use Rattle.frames.specs.Window.{Reads}
-use Rattle.frames.proofs.Windows.{windowed_counts}
-use Rattle.frames.proofs.Frames.{printed}
+use Rattle.std.proofs.Common.{◌∙◌, ap, sym, length}
+use Rattle.frames.specs.Lines.{eight_lines}
+use Rattle.frames.proofs.Frames.{runs_printed}
 use Rattle.frames.proofs.answer_input.Goals as goal
 
-pub lines_of-printed-requires : goal.lines_of-printed-requires
-lines_of-printed-requires g c = windowed_counts (subst (Reads _) c.in-Seen.is c.read_all.ensures)
-
-pub returns-then-print : goal.returns-then-print
-returns-then-print g c = printed (subst (Reads _) c.in-Seen.is c.read_all.ensures) c.lines_of-printed.ensures.text_after
-
-pub returns-else-print : goal.returns-else-print
-returns-else-print g c = printed (subst (Reads _) c.in-Seen.is c.read_all.ensures) c.lines_of-printed.ensures.text_after
+pub returns : goal.returns
+returns g c =
+    let is = c.branch-kept.ensures.value in
+    runs_printed _ _ _ _ (sym (ap length is) ∙ c.branch-kept.ensures.len) c.read_all.new.self.counted (c.lines.ensures ∙ ap eight_lines is) c.print.ensures

@@ -1,8 +1,8 @@
-use Rattle.lexer.proofs.Coding.{ends_at, stands}
+use Rattle.std.proofs.Common.{arith}
+use Rattle.std.proofs.lemmas.Grind.{common_steps}
+use Rattle.std.proofs.lemmas.Option.{gets}
+use Rattle.lexer.proofs.Reading.{stands}
 use Rattle.lexer.proofs.word_at.Goals as goal
 
-pub returns-then-at-ge-MOST_TEXT : goal.returns-then-at-ge-MOST_TEXT
-returns-then-at-ge-MOST_TEXT c = ends_at c.args.tokens.now c.args.at c.if-at-ge-MOST_TEXT.true
-
 pub returns : goal.returns
-returns c = stands c.args.tokens.now c.args.at c.word_of.result c.if-at-ge-MOST_TEXT.false c.word_of.ensures
+returns c = stands c.args.words.now c.args.at c.unwrap_or.result (λ h. grind (arith, common_steps, gets)) (grind (arith, common_steps, gets))

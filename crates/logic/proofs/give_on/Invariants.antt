@@ -1,15 +1,15 @@
-use Prim.Native.Nat.{ℕ, ◌≤◌, ◌-◌}
+use Prim.Native.Nat.{ℕ, ◌≤◌}
 use mathlib.Core.Path.{◌≡◌}
 use mathlib.Core.List.{List, [], ◌++◌}
 use mathlib.Core.Option.{Option}
 use lib.ListN.{length, drop}
 use Rattle.definition.specs.Limits.{most_identifiers}
-use Rattle.arrays.specs.Listed.{Listed}
+use Rattle.arrays.specs.Listed.{HasList}
 use Rattle.bits.specs.Worlds.{worlds_in}
 use Rattle.definition.specs.Lists.{Each}
 use Rattle.definition.specs.Tree.{Node}
 use Rattle.definition.specs.Modality.{Necessity, Fork, give_on}
-use Rattle.tree.specs.Lay.{Held}
+use Rattle.tree.specs.Lay.{HasNodes}
 use Rattle.subtree.specs.Items.{Item, Listing}
 use Rattle.modality.specs.Seen.{Seen}
 use Rattle.logic.proofs.Giving.{Giving}
@@ -17,10 +17,7 @@ use Rattle.logic.proofs.give_on.Given as goal
 
 -- What is given so far and what the paths that are left still give is all that is to be given; each turn gives on one path.
 abbrev pub invariant-loop-j : goal.invariant-loop-j
-invariant-loop-j l = (l.j ≤ l.k) ×
-    ((t more : List Node) (fk : Option Fork) (n : Necessity) (ls : List ℕ) (rs : List Item) → n.spawner ≡ l.spawner.0 → n.formula ≡ l.formula.0 →
-    Listed ls l.k l.on → l.k ≤ most_identifiers → Each (Seen t fk l.seen) ls → Held (t ++ more) l.initial.here.nodes l.initial.nodes → (l.initial.here.nodes ≤ most_identifiers → Listing rs [] l.initial.here.listed l.initial.here.nodes l.initial.items) →
-    Giving t fk n (worlds_in l.worlds) (drop l.j ls) ((t ++ more) ++ (give_on t fk n (worlds_in l.worlds) (length (t ++ more)) ls).nodes) rs (give_on t fk n (worlds_in l.worlds) (length (t ++ more)) ls).subtrees l.here.nodes l.nodes l.here.listed l.items)
-
-abbrev pub decreases-loop-j : goal.decreases-loop-j
-decreases-loop-j l = l.k - l.j
+invariant-loop-j l =
+    (t more : List Node) (fk : Option Fork) (n : Necessity) (ls : List ℕ) (rs : List Item) → n.spawner ≡ l.spawner.0 → n.formula ≡ l.formula.0 →
+    HasList ls l.on → l.on.len ≤ most_identifiers → Each (Seen t fk l.seen) ls → HasNodes (t ++ more) l.fn.tree → (l.fn.tree.len ≤ most_identifiers → Listing rs [] l.fn.items l.fn.tree.len) →
+    Giving t fk n (worlds_in l.worlds) (drop l.j ls) ((t ++ more) ++ (give_on t fk n (worlds_in l.worlds) (length (t ++ more)) ls).nodes) rs (give_on t fk n (worlds_in l.worlds) (length (t ++ more)) ls).subtrees l.tree l.items

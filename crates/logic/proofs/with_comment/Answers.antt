@@ -1,6 +1,5 @@
-use native.Mathlib.Omega.{arith}
 use Rattle.logic.proofs.Forked.{commented}
 use Rattle.logic.proofs.with_comment.Goals as goal
 
 pub returns : goal.returns
-returns c = (commented _, λ m l. record { on_left = omega arith; on_middle = l; on_right = omega arith })
+returns c = commented _ _ c.with_middle.ensures.0 c.with_middle.ensures.1 c.with_middle.ensures.2

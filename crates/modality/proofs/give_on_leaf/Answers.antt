@@ -9,9 +9,6 @@ use Rattle.modality.proofs.give_on_leaf.Goals as goal
 pub loop-rest-init : goal.loop-rest-init
 loop-rest-init c = (search rules, drawn_none _, λ ns p has h. make_start _ ns _ (worlds_both p _ _ _ c.intersection-rest.ensures has) h)
 
-pub loop-rest-smaller : goal.loop-rest-smaller
-loop-rest-smaller c = c.other_worlds-rest.ensures.1 (omega (arith, c.loop-rest-test.true))
-
 pub loop-rest-preserved : goal.loop-rest-preserved
 loop-rest-preserved c = (
   omega (arith, c.other_worlds-rest.ensures.1 (omega (arith, c.loop-rest-test.true)), c.loop-rest.invariant.0),

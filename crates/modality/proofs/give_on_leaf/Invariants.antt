@@ -7,13 +7,13 @@ use Rattle.bits.specs.Worlds.{worlds_in}
 use Rattle.definition.specs.Lists.{filter}
 use Rattle.definition.specs.Tree.{Node, new_node}
 use Rattle.tree.specs.Chain.{DrawnFrom}
-use Rattle.tree.specs.Lay.{Held}
+use Rattle.tree.specs.Lay.{HasNodes}
 use Rattle.modality.proofs.Give.{Making}
 use Rattle.modality.proofs.give_on_leaf.Given as goal
 
 -- The nodes made so far and those that the rest of the worlds still give are all that is to be given; each turn makes the first of the rest.
 abbrev pub invariant-loop-rest : goal.invariant-loop-rest
-invariant-loop-rest l = (l.rest < 2 ^ 32) × DrawnFrom l.len l.given × ((ns : List Node) (p : ℕ → Bool) → ((v : ℕ) → v < 32 → bit_of l.here v ≡ p v) → Held ns l.len l.initial.nodes → Making (new_node l.spawner.0 l.formula.0) (ns ++ map (new_node l.spawner.0 l.formula.0) (filter p (worlds_in l.worlds))) l.rest l.given.len l.nodes)
+invariant-loop-rest l = (l.rest < 2 ^ 32) × DrawnFrom l.initial.tree.len l.given l.tree.len × ((ns : List Node) (p : ℕ → Bool) → ((v : ℕ) → v < 32 → bit_of l.here v ≡ p v) → HasNodes ns l.initial.tree → Making (new_node l.spawner.0 l.formula.0) (ns ++ map (new_node l.spawner.0 l.formula.0) (filter p (worlds_in l.worlds))) l.rest l.tree.len l.tree.cells)
 
 abbrev pub decreases-loop-rest : goal.decreases-loop-rest
 decreases-loop-rest l = l.rest

@@ -1,8 +1,8 @@
-use Prim.Native.Nat.{ℕ, ◌≤◌, ◌-◌}
+use Prim.Native.Nat.{ℕ, ◌≤◌}
 use mathlib.Core.List.{List, ◌++◌}
 use lib.ListN.{take}
 use Rattle.definition.specs.Limits.{most_identifiers}
-use Rattle.arrays.specs.Listed.{Listed}
+use Rattle.arrays.specs.Listed.{HasList}
 use Rattle.definition.specs.Lists.{filter}
 use Rattle.definition.specs.Tree.{Node}
 use Rattle.definition.specs.Modality.{Necessity}
@@ -13,7 +13,4 @@ use Rattle.modality.proofs.leaves_of.Given as goal
 
 -- After j turns the list has, behind what it had, the leaves among the first j whose path runs through a leaf of the necessity.
 abbrev pub invariant-loop-j : goal.invariant-loop-j
-invariant-loop-j here = (here.j ≤ here.m) × ((t : List Node) (s : Necessity) (ls l : List ℕ) → Stands t here.base here.nodes → InRow here.k s.leaves here.leaves → Listed ls here.m here.list → here.m ≤ most_identifiers → Listed l here.c here.initial.out → Listed (l ++ filter (through t s) (take here.j ls)) here.n here.out)
-
-abbrev pub decreases-loop-j : goal.decreases-loop-j
-decreases-loop-j l = l.m - l.j
+invariant-loop-j here = (t : List Node) (s : Necessity) (ls l : List ℕ) → Stands t here.base here.tree → InRow here.k s.leaves here.necessities.leaves → HasList ls here.list → here.list.len ≤ most_identifiers → HasList l here.initial.out → HasList (l ++ filter (through t s) (take here.j ls)) here.out

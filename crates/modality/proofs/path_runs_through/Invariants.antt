@@ -10,8 +10,5 @@ use Rattle.modality.proofs.Before.{stored}
 use Rattle.modality.proofs.path_runs_through.Given as goal
 
 -- At every turn what is left of the path has a stored leaf just if the whole path has one.
-abbrev pub invariant-loop-j : goal.invariant-loop-j
-invariant-loop-j l = (t : List Node) (n : Necessity) → Stands t l.base l.nodes → InRow l.k n.leaves l.leaves → any (stored n) (upward (l.base - l.j) t l.cur.0) ≡ runs_through n (path t l.initial.cur.0)
-
-abbrev pub decreases-loop-j : goal.decreases-loop-j
-decreases-loop-j l = l.base - l.j
+abbrev pub invariant-loop : goal.invariant-loop
+invariant-loop l = (t : List Node) (n : Necessity) → Stands t l.base l.tree → InRow l.k n.leaves l.necessities.leaves → any (stored n) (upward (l.base - l.counter) t l.cur.0) ≡ runs_through n (path t l.initial.cur.0)

@@ -1,15 +1,11 @@
-use Prim.Native.Nat.{◌≤◌, ◌-◌}
 use mathlib.Core.Path.{◌≡◌}
 use Rattle.definition.specs.Graph.{Graph}
 use Rattle.definition.specs.Modality.{Necessity}
-use Rattle.graph.specs.Drawn.{Drawn}
+use Rattle.graph.specs.Drawn.{HasGraph}
 use Rattle.necessities.specs.Stored.{InWord}
 use Rattle.modality.proofs.Give.{fresh, Marks}
 use Rattle.modality.proofs.unvisited.Given as goal
 
 -- The word has a bit for each world before v that is reached and not visited; after the last world these are the unvisited ones, rising.
 abbrev pub invariant-loop-v : goal.invariant-loop-v
-invariant-loop-v l = (l.v ≤ l.worlds) × ((g : Graph) (n : Necessity) → n.world ≡ l.from → Drawn g l.worlds l.edges → InWord n.visited l.visited → Marks (fresh g l.from n.visited) l.v l.word)
-
-abbrev pub decreases-loop-v : goal.decreases-loop-v
-decreases-loop-v l = l.worlds - l.v
+invariant-loop-v l = (g : Graph) (n : Necessity) → n.world ≡ l.from → HasGraph g l.graph → InWord n.visited l.visited → Marks (fresh g l.from n.visited) l.v l.word

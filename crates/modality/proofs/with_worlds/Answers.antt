@@ -1,8 +1,11 @@
-use Rattle.modality.proofs.Worlds.{brings_own, brings_forked}
+use Rattle.modality.proofs.Worlds.{forked_here, forked_elsewhere, forked_nowhere, brings_own, brings_forked}
 use Rattle.modality.proofs.with_worlds.Goals as goal
 
-pub returns-then-forks_at : goal.returns-then-forks_at
-returns-then-forks_at c = λ t d. brings_forked t c.args.forking _ c.forks_at.ensures _ _ (c.world_before.ensures t d) c.with_world-here.ensures c.if-forks_at.true _ c.with_world.ensures
+pub returns-in-Some : goal.returns-in-Some
+returns-in-Some c = rw c.in-Some.is (λ t d. brings_forked t _ _ _ _ (c.world_before.ensures t d) c.with_world-here.ensures _ (λ v. forked_here c.in-Some.fork _ (rw c.in-Some.fork-is at c.eq.ensures) v c.if-eq.true) _ (rw c.in-Some.fork-is at c.with_world.ensures))
 
-pub returns : goal.returns
-returns c = λ t d. brings_own t c.args.forking _ c.forks_at.ensures _ _ (c.world_before.ensures t d) c.with_world-here.ensures c.if-forks_at.false
+pub returns-in_default : goal.returns-in_default
+returns-in_default c = rw c.in-Some.is (λ t d. brings_own t _ _ _ _ (c.world_before.ensures t d) c.with_world-here.ensures (λ v. forked_elsewhere c.in-Some.fork _ (rw c.in-Some.fork-is at c.eq.ensures) v c.if-eq.false))
+
+pub returns-in_default-2 : goal.returns-in_default-2
+returns-in_default-2 c = rw c.in_default.is (λ t d. brings_own t _ _ _ _ (c.world_before.ensures t d) c.with_world-here.ensures (forked_nowhere _))

@@ -9,8 +9,5 @@ use Rattle.modality.proofs.Worlds.{gathered}
 use Rattle.modality.proofs.worlds_on.Given as goal
 
 -- At every turn the worlds of the word and those that what is left of the path brings are those of the whole path.
-abbrev pub invariant-loop-j : goal.invariant-loop-j
-invariant-loop-j l = (t : List Node) → Stands t l.base l.nodes → (v : ℕ) → v < 32 → gathered t (fork_of l.forking) v l.word (upward (l.base - l.j) t l.cur.0) ≡ occurs t (fork_of l.forking) (path t l.initial.cur.0) v
-
-abbrev pub decreases-loop-j : goal.decreases-loop-j
-decreases-loop-j l = l.base - l.j
+abbrev pub invariant-loop : goal.invariant-loop
+invariant-loop l = (t : List Node) → Stands t l.base l.tree → (v : ℕ) → v < 32 → gathered t (fork_of l.forking) v l.word (upward (l.base - l.counter) t l.cur.0) ≡ occurs t (fork_of l.forking) (path t l.initial.cur.0) v

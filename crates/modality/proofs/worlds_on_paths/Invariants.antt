@@ -1,10 +1,10 @@
-use Prim.Native.Nat.{ℕ, ◌≤◌, ◌<◌, ◌-◌}
+use Prim.Native.Nat.{ℕ, ◌≤◌, ◌<◌}
 use mathlib.Core.Path.{◌≡◌}
 use mathlib.Core.Bool.{false}
 use mathlib.Core.List.{List}
 use lib.ListN.{length, get_or, take}
 use Rattle.definition.specs.Limits.{most_identifiers}
-use Rattle.arrays.specs.Listed.{Listed}
+use Rattle.arrays.specs.Listed.{HasList}
 use Rattle.definition.specs.Lists.{Each, elem}
 use Rattle.definition.specs.Tree.{Node}
 use Rattle.modality.specs.Stands.{Stands}
@@ -14,8 +14,5 @@ use Rattle.modality.proofs.worlds_on_paths.Given as goal
 
 -- After j turns `seen` has the worlds on the path of each of the first j leaves, and the entries of all that is not listed are as they were.
 abbrev pub invariant-loop-j : goal.invariant-loop-j
-invariant-loop-j s = (s.j ≤ s.m) × ((t : List Node) (ls : List ℕ) → Stands t s.base s.nodes → Listed ls s.m s.on → s.m ≤ most_identifiers → Each (λ l. l < most_identifiers) ls → length s.initial.seen ≡ most_identifiers → (length s.seen ≡ most_identifiers) × Each (Seen t (fork_of s.forking) s.seen) (take s.j ls))
-    × ((ls : List ℕ) → Listed ls s.m s.on → s.m ≤ most_identifiers → (x : ℕ) → elem x ls ≡ false → get_or s.seen x 0 ≡ get_or s.initial.seen x 0)
-
-abbrev pub decreases-loop-j : goal.decreases-loop-j
-decreases-loop-j l = l.m - l.j
+invariant-loop-j s = ((t : List Node) (ls : List ℕ) → Stands t s.base s.tree → HasList ls s.on → s.on.len ≤ most_identifiers → Each (λ l. l < most_identifiers) ls → length s.initial.seen ≡ most_identifiers → (length s.seen ≡ most_identifiers) × Each (Seen t (fork_of s.forking) s.seen) (take s.j ls))
+    × ((ls : List ℕ) → HasList ls s.on → s.on.len ≤ most_identifiers → (x : ℕ) → elem x ls ≡ false → get_or s.seen x 0 ≡ get_or s.initial.seen x 0)

@@ -1,12 +1,10 @@
-use mathlib.Core.Path.{sym, ap, ◌∙◌}
-use Rattle.checks.specs.Checked.{check_of}
+use Rattle.std.proofs.lemmas.Result.{err_from_is_err_and}
 use Rattle.prover.specs.Said.{said}
 use Rattle.prover.proofs.Whole.{contract_refused}
 use Rattle.prover.proofs.prove.Goals as goal
 
-pub returns-in-Refused : goal.returns-in-Refused
+pub returns-in_err-check : goal.returns-in_err-check
 unfolding said
-returns-in-Refused c = contract_refused _ _ _ _ _ (ap check_of (sym c.in-Refused.is) ∙ c.check.ensures)
-
-pub returns-in-Accepted : goal.returns-in-Accepted
-returns-in-Accepted c = c.run.ensures (sym c.check.ensures ∙ ap check_of c.in-Accepted.is)
+returns-in_err-check c =
+    let p = err_from_is_err_and c.from_residual.result c.from_residual.ensures.1 in
+    rw (p.1, p.2) (contract_refused _ _ _ _ _ c.in_err-check.ensures)

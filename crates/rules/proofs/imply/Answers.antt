@@ -5,4 +5,6 @@ use Rattle.rules.proofs.imply.Goals as goal
 
 pub returns : goal.returns
 unfolding expansion_by
-returns c = λ rs h. expands_one _ h _ c.next_formula-non_p.ensures.0 c.non-after.ensures refl (λ m. rw m refl)
+returns c = λ rs h.
+    let made = c.non-non_p.ensures in
+    expands_one c.args.formulas.now _ h _ _ made.number.0 made.records refl (λ m. rw m refl)

@@ -5,4 +5,7 @@ use Rattle.rules.proofs.non_or.Goals as goal
 
 pub returns : goal.returns
 unfolding non_expansion
-returns c = λ rs h. expands_two _ h _ c.next_formula-non_q.ensures.0 c.non-first.ensures _ c.next_formula-non_p.ensures.0 c.non-second.ensures (λ m. refl) (λ m s. rw (m, s) refl)
+returns c = λ rs h.
+    let first = c.non-non_q.ensures in
+    let second = c.non-non_p.ensures in
+    expands_two c.args.formulas.now _ h c.non-non_q.new.self _ first.number.0 first.records _ second.number.0 second.records (λ m. refl) (λ m s. rw (m, s) refl)

@@ -5,4 +5,7 @@ use Rattle.rules.proofs.non_possible.Goals as goal
 
 pub returns : goal.returns
 unfolding non_expansion
-returns c = λ rs q h. expands_two _ h _ c.next_formula-non_p.ensures.0 c.non-first.ensures _ c.next_formula-necessary_non_p.ensures.0 c.necessary-second.ensures (λ m. rw m refl) (λ m s. rw s refl)
+returns c = λ rs q h.
+    let first = c.non-non_p.ensures in
+    let second = c.necessary-necessary_non_p.ensures in
+    expands_two c.args.formulas.now _ h c.non-non_p.new.self _ first.number.0 first.records _ second.number.0 second.records (λ m. rw m refl) (λ m s. rw s refl)

@@ -5,4 +5,7 @@ use Rattle.rules.proofs.non_strict_imply.Goals as goal
 
 pub returns : goal.returns
 unfolding non_expansion
-returns c = λ rs h. expands_two _ h _ c.next_formula-imply_p_q.ensures.0 c.imply-first.ensures _ c.next_formula-non_imply_p_q.ensures.0 c.non-second.ensures (λ m. rw m refl) (λ m s. rw s refl)
+returns c = λ rs h.
+    let first = c.imply-imply_p_q.ensures in
+    let second = c.non-non_imply_p_q.ensures in
+    expands_two c.args.formulas.now _ h c.imply-imply_p_q.new.self _ first.number.0 first.records _ second.number.0 second.records (λ m. rw m refl) (λ m s. rw s refl)

@@ -7,4 +7,4 @@ pub returns : goal.returns
 returns c = λ ns h.
     let left = c.new_node-left.ensures in
     let right = c.new_node-right.ensures in
-    here_split _ _ h _ [] (_ ∷ []) refl left.0.id right.0.id left.1 right.1 c.with_left_right_nodes.ensures
+    here_split c.args.tree.now _ _ h c.new_node-left.new.self _ [] (_ ∷ []) refl left.0.id right.0.id left.1 right.1 c.with_left_right_nodes.ensures

@@ -5,4 +5,6 @@ use Rattle.rules.proofs.strict_imply.Goals as goal
 
 pub returns : goal.returns
 unfolding expansion_by
-returns c = λ rs h. expands_one _ h _ c.next_formula-imply_p_q.ensures.0 c.imply-after.ensures refl (λ m. rw m refl)
+returns c = λ rs h.
+    let made = c.imply-imply_p_q.ensures in
+    expands_one c.args.formulas.now _ h _ _ made.number.0 made.records refl (λ m. rw m refl)

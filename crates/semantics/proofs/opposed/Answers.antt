@@ -1,30 +1,27 @@
+use mathlib.Core.Path.{◌≡◌, refl, sym, ◌∙◌}
+use mathlib.Core.Bool.{and-true, and-false}
+use Rattle.std.specs.Option.{is_some, option_eq}
+use Rattle.std.specs.Prelude.{Option, None, Some, ◌&&◌}
 use Rattle.definition.specs.Contradiction.{opposed}
-use Rattle.semantics.proofs.Literals.{atom_atom, atom_pair, pair_atom, pair_pair, pair_differs}
+use Rattle.semantics.specs.declared.Literal.{Literal}
+use Rattle.semantics.specs.declared.Literal.TheVariants.{Atom, Pair}
+use Rattle.semantics.specs.contracts.LiteralPartialEq.TheImpl.{eq-value}
+use Rattle.semantics.specs.Literal.{atoms_in}
 use Rattle.semantics.proofs.opposed.Goals as goal
 
-pub returns-in-Nothing : goal.returns-in-Nothing
+-- equal literals have equal lists of atoms
+same_atoms : (p q : Option Literal) → (is_some p && option_eq eq-value.it p q) ≡ opposed (atoms_in p) (atoms_in q)
 unfolding opposed
-returns-in-Nothing c = rw c.in-Nothing.is
+same_atoms None q = refl
+same_atoms (Some (Atom a)) None = refl
+same_atoms (Some (Pair a b)) None = refl
+same_atoms (Some (Atom a)) (Some (Atom x)) = simp and-true
+same_atoms (Some (Atom a)) (Some (Pair x y)) = simp and-false
+same_atoms (Some (Pair a b)) (Some (Atom x)) = simp and-false
+same_atoms (Some (Pair a b)) (Some (Pair x y)) = simp and-true
 
-pub returns-in-Nothing-q : goal.returns-in-Nothing-q
-unfolding opposed
-returns-in-Nothing-q c = rw (c.in-Atom.is, c.in-Nothing-q.is)
+pub returns-then-is_some : goal.returns-then-is_some
+returns-then-is_some c = rw (c.eq.ensures, ← same_atoms, sym c.is_some.ensures ∙ c.if-is_some.true) refl
 
-pub returns-in-Atom-q : goal.returns-in-Atom-q
-returns-in-Atom-q c = rw (c.in-Atom.is, c.in-Atom-q.is) (atom_atom _ _)
-
-pub returns-in-Pair-q : goal.returns-in-Pair-q
-returns-in-Pair-q c = rw (c.in-Atom.is, c.in-Pair-q.is) (atom_pair _ _ _)
-
-pub returns-in-Nothing-q-2 : goal.returns-in-Nothing-q-2
-unfolding opposed
-returns-in-Nothing-q-2 c = rw (c.in-Pair.is, c.in-Nothing-q-2.is)
-
-pub returns-in-Atom-q-2 : goal.returns-in-Atom-q-2
-returns-in-Atom-q-2 c = rw (c.in-Pair.is, c.in-Atom-q-2.is) (pair_atom _ _ _)
-
-pub returns-then-a-x : goal.returns-then-a-x
-returns-then-a-x c = rw (c.in-Pair.is, c.in-Pair-q-2.is) (pair_pair _ _ _ _ c.if-a-x.true)
-
-pub returns-else-a-x : goal.returns-else-a-x
-returns-else-a-x c = rw (c.in-Pair.is, c.in-Pair-q-2.is) (pair_differs _ _ _ _ c.if-a-x.false)
+pub returns-else-is_some : goal.returns-else-is_some
+returns-else-is_some c = rw (← same_atoms, sym c.is_some.ensures ∙ c.if-is_some.false) c.if-is_some.false

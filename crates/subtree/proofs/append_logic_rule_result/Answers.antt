@@ -3,28 +3,25 @@ use native.Mathlib.Omega.{arith}
 use Rattle.definition.specs.Subtree.{append_logic_rule_result}
 use Rattle.definition.specs.TreeShape.{TreedThroughout}
 use Rattle.subtree.specs.Items.{filled}
-use Rattle.subtree.proofs.Items.{rows_count, held_few, joining_start, joining_next, joining_end, joining_full}
+use Rattle.subtree.proofs.Rows.{rows_count, held_few, joining_start, joining_next, joining_end, joining_full}
 use Rattle.subtree.proofs.Placing.{left_as}
 use Rattle.subtree.proofs.append_logic_rule_result.Goals as goal
 
-pub returns-then-made-gt-MOST_IDENTIFIERS : goal.returns-then-made-gt-MOST_IDENTIFIERS
-returns-then-made-gt-MOST_IDENTIFIERS c = λ ns q is p f t st. joining_full q _ c.if-made-gt-MOST_IDENTIFIERS.true p
+pub returns-then-tree-gt-MOST_IDENTIFIERS : goal.returns-then-tree-gt-MOST_IDENTIFIERS
+returns-then-tree-gt-MOST_IDENTIFIERS c = λ ns q is p f t st. joining_full q _ c.if-tree-gt-MOST_IDENTIFIERS.true p
 
 pub loop-k-init : goal.loop-k-init
 loop-k-init c = λ ns q rs p f t st. joining_start ns q rs p f st
 
-pub overflow_add-k : goal.overflow_add-k
-overflow_add-k c = omega (arith, c.loop-k-test.true, c.struct_known-1.given)
-
 pub loop-k-preserved : goal.loop-k-preserved
 loop-k-preserved c = λ ns q rs p f t st.
-    let h = c.if-made-gt-MOST_IDENTIFIERS.false in
-    joining_next rs c.loop-k.k _ _ _ _ c.loop-k-test.true (held_few p h) (t h) c.item_field.ensures c.item_field-in-loop-k.ensures c.item_field-in-loop-k-2.ensures c.with_middle_vertical_nodes-s.ensures (c.loop-k.invariant ns q rs p f t st) c.append_subtree-here.ensures
+    let h = c.if-tree-gt-MOST_IDENTIFIERS.false in
+    joining_next rs c.loop-k.k _ _ _ _ c.loop-k-test.true (held_few p h) (t h) c.field.ensures c.field-in-loop-k.ensures c.field-in-loop-k-2.ensures c.with_middle_vertical_nodes-s.ensures (c.loop-k.invariant ns q rs p f t st) c.append_subtree.ensures
 
 pub returns : goal.returns
 returns c = λ ns q is p f t st.
-    let h = c.if-made-gt-MOST_IDENTIFIERS.false in
+    let h = c.if-tree-gt-MOST_IDENTIFIERS.false in
     let put = t h in
     let rs = put.all in
     left_as (append_logic_rule_result ns q is) (ap (append_logic_rule_result ns q) put.are)
-    (joining_end (filled rs) c.loop-k.k (omega (arith, (rows_count (held_few p h) put.rows).0, c.loop-k-test.false)) (c.loop-k.invariant ns q rs p f (λ _. put.rows) (subst (TreedThroughout ns q) (sym put.are) st)))
+    (joining_end (filled rs) c.loop-k.k (omega (arith, (rows_count (held_few p h) put.rows).0)) (c.loop-k.invariant ns q rs p f (λ _. put.rows) (subst (TreedThroughout ns q) (sym put.are) st)))

@@ -2,4 +2,4 @@ use Rattle.subtree.proofs.Subtrees.{attached}
 use Rattle.subtree.proofs.attach_new_ids.Goals as goal
 
 pub returns : goal.returns
-returns c = λ ns p w. attached c.args.s ns _ _ _ p w c.copy_chain-a.ensures c.copy_chain-b.ensures c.copy_chain-c.ensures
+returns c = λ ns p w. attached c.args.s ns _ _ _ _ _ _ _ p w c.copy_chain-left.ensures c.copy_chain-middle.ensures c.copy_chain-right.ensures

@@ -1,3 +1,4 @@
+use borrow.Author.Rules.{rules}
 use Rattle.definition.specs.Records.{rec_at}
 use Rattle.slices.proofs.Writing.{low_same, puts_then, puts_as}
 use Rattle.trays.proofs.Bytes.{record_bytes_lem, number_low}
@@ -8,8 +9,8 @@ returns c = λ rs p h b.
     let x = rec_at rs c.args.f.0 in
     puts_as
     (record_bytes_lem x
-    (low_same c.low.ensures (c.kind_at-kind.ensures rs p h) (number_low x.kind))
-    (low_same c.low-2.ensures (c.mark_at-mark.ensures rs p h) b)
+    (low_same (search rules) (c.kind_at.ensures rs p h) (number_low x.kind))
+    (low_same (search rules) (c.mark_at.ensures rs p h) b)
     (c.left_at-left.ensures rs p h)
     (c.right_at-right.ensures rs p h))
     (puts_then c.put-a.ensures.0

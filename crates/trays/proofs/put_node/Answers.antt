@@ -1,13 +1,10 @@
-use native.Mathlib.Omega.{arith}
+use borrow.Author.Rules.{rules}
 use mathlib.Core.Path.{◌∙◌, ap}
 use mathlib.Core.Bool.{Bool, cond}
 use Rattle.definition.specs.Tree.{node_at}
 use Rattle.slices.proofs.Writing.{low_same, puts_then, puts_as}
-use Rattle.trays.proofs.Bytes.{node_bytes_lem}
+use Rattle.trays.proofs.Bytes.{bit_of, node_bytes_lem}
 use Rattle.trays.proofs.put_node.Goals as goal
-
-pub shape_of-tray : goal.shape_of-tray
-shape_of-tray c = omega (arith, c.tray-8-1.given, c.tray-7-1.given, c.tray-6-1.given, c.tray-5-1.given, c.tray-4-1.given, c.tray-3-1.given, c.tray-2-1.given, c.tray-1.given)
 
 pub returns : goal.returns
 returns c = λ ns z b.
@@ -16,11 +13,11 @@ returns c = λ ns z b.
     (node_bytes_lem node
     (c.parent_of-parent.ensures ns z)
     (c.place_byte.ensures node.place (c.place_of-place.ensures ns z))
-    (low_same c.low.ensures (c.world_of-world.ensures ns z) b)
+    (low_same (search rules) (c.world_of.ensures ns z) b)
     (c.formula_of-formula.ensures ns z)
     (c.spawner_of-spawner.ensures ns z)
     (c.contrarian_of-contrarian.ensures ns z)
-    (c.bit.ensures.0 ∙ ap (λ (v : Bool). cond v 1 0) (c.is_contradictory-contradictory.ensures ns z)))
+    ((bit_of _ c.from.ensures).0 ∙ ap (λ (v : Bool). cond v 1 0) (c.is_contradictory-contradictory.ensures ns z)))
     (puts_then c.put_two-a.ensures.0
     (puts_then c.put-b.ensures.0
     (puts_then c.put-c.ensures.0

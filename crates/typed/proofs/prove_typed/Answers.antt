@@ -1,36 +1,20 @@
-use mathlib.Core.Path.{sym, subst}
+use mathlib.Core.Path.{sym}
 use lib.Seq.{length-take-le}
-use Rattle.prover.specs.Said.{said}
-use Rattle.reader.specs.Contract.{ReadText}
-use Rattle.typed.proofs.Offsets.{offset_low}
-use Rattle.typed.proofs.Whole.{records_fit, too_short, too_long, unreadable, read_and_run}
 use native.Mathlib.Omega.{arith}
-use borrow.Author.Rules.{rules}
+use Rattle.std.proofs.lemmas.Result.{err_from_is_err_and}
+use Rattle.typed.proofs.Whole.{records_fit, refused, read_and_run}
 use Rattle.typed.proofs.prove_typed.Goals as goal
 
-pub overflow_cast-result : goal.overflow_cast-result
-overflow_cast-result c =
-    let h = subst (ReadText _ _ _) c.in-Unreadable.is c.read_text.ensures in
-    let low = offset_low h.1 h.2 in
-    search (rules, low)
+pub returns-in_err-count : goal.returns-in_err-count
+returns-in_err-count c =
+    let p = err_from_is_err_and c.from_residual.result c.from_residual.ensures.1 in
+    rw (p.1, p.2) (refused _ _ _ _ c.in_err-count.ensures)
 
 pub slice_bounds-prove-end : goal.slice_bounds-prove-end
-slice_bounds-prove-end c = omega (arith, records_fit (subst (ReadText _ _ _) c.in-Taken.is c.read_text.ensures).2)
+slice_bounds-prove-end c = omega (arith, records_fit c.in_ok-count.ensures.2, c.from-end.ensures)
 
-pub slice_bounds-prove-end-in-Taken : goal.slice_bounds-prove-end-in-Taken
-slice_bounds-prove-end-in-Taken c = sym (length-take-le _ _ (omega (arith, records_fit (subst (ReadText _ _ _) c.in-Taken.is c.read_text.ensures).2)))
+pub slice_bounds-prove-end-2 : goal.slice_bounds-prove-end-2
+slice_bounds-prove-end-2 c = sym (length-take-le _ _ (omega (arith, records_fit c.in_ok-count.ensures.2, c.from-end.ensures)))
 
-pub returns-in-ShortTray : goal.returns-in-ShortTray
-unfolding said
-returns-in-ShortTray c = too_short _ _ _ (subst (ReadText _ _ _) c.in-ShortTray.is c.read_text.ensures)
-
-pub returns-in-LongText : goal.returns-in-LongText
-unfolding said
-returns-in-LongText c = too_long _ _ _ (subst (ReadText _ _ _) c.in-LongText.is c.read_text.ensures)
-
-pub returns-in-Unreadable : goal.returns-in-Unreadable
-unfolding said
-returns-in-Unreadable c = unreadable _ _ _ _ (subst (ReadText _ _ _) c.in-Unreadable.is c.read_text.ensures)
-
-pub returns-in-Taken : goal.returns-in-Taken
-returns-in-Taken c = read_and_run _ _ _ _ _ (subst (ReadText _ _ _) c.in-Taken.is c.read_text.ensures) c.prove.ensures
+pub returns : goal.returns
+returns c = read_and_run _ _ _ _ _ c.in_ok-count.ensures (rw c.from-end.ensures at c.prove.ensures)

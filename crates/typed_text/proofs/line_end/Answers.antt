@@ -1,16 +1,21 @@
-use borrow.Author.Rules.{rules}
-use mathlib.Core.Path.{refl, sym, ◌∙◌}
-use Rattle.typed_text.proofs.Places.{end_newline, end_next, end_over}
+use Rattle.std.proofs.Common.{◌≡◌, ◌+◌, ◌-◌, ◌<◌, ◌∙◌, ap, take, drop, length, length-drop, get_or, rules, arith, ℕ, List}
+use Rattle.typed_text.specs.Diagnosis.{up_to_newline}
+use Rattle.typed_text.proofs.Places.{rest_is, end_found, end_none}
 use Rattle.typed_text.proofs.line_end.Goals as goal
 
-pub loop-i-init : goal.loop-i-init
-loop-i-init c = (search rules, search rules, refl)
+pub returns-in-Some : goal.returns-in-Some
+returns-in-Some c =
+    let rest = take (length c.args.text.now - c.args.at) (drop c.args.at c.args.text.now) in
+    let inside : c.in-Some.length < length rest = search rules in
+    let found : get_or rest c.in-Some.length 0 ≡ 10 = search rules in
+    let none : (k : ℕ) → k < c.in-Some.length → get_or rest k 0 ≡ 10 → ⊥ = λ k h1 h3. search rules in
+    let same = rest_is c.args.text.now c.args.at in
+    (ap (λ (n : ℕ). c.args.at + n) (end_found rest c.in-Some.length inside found none ∙ ap (λ (l : List ℕ). length (up_to_newline l)) same), omega arith, omega (arith, inside, ap length same, length-drop c.args.at c.args.text.now, c.requires))
 
-pub returns-then-text-i-eq10 : goal.returns-then-text-i-eq10
-returns-then-text-i-eq10 c = (sym (end_newline _ _ c.loop-i-test.true c.if-text-i-eq10.true) ∙ c.loop-i.invariant.2, c.loop-i.invariant.0, c.loop-i.invariant.1)
-
-pub loop-i-preserved : goal.loop-i-preserved
-loop-i-preserved c = (search rules, search rules, end_next _ _ c.loop-i-test.true c.if-text-i-eq10.false ∙ c.loop-i.invariant.2)
-
-pub returns : goal.returns
-returns c = (sym (end_over _ _ c.loop-i-test.false) ∙ c.loop-i.invariant.2, c.loop-i.invariant.0, c.loop-i.invariant.1)
+pub returns-in-None : goal.returns-in-None
+returns-in-None c =
+    let rest = take (length c.args.text.now - c.args.at) (drop c.args.at c.args.text.now) in
+    let none : (k : ℕ) → k < length rest → get_or rest k 0 ≡ 10 → ⊥ = λ k h2 h3. search rules in
+    let same = rest_is c.args.text.now c.args.at in
+    let all : length rest ≡ length (up_to_newline (drop c.args.at c.args.text.now)) = end_none rest none ∙ ap (λ (l : List ℕ). length (up_to_newline l)) same in
+    (omega (arith, all, ap length same, length-drop c.args.at c.args.text.now, c.requires), c.requires, omega arith)

@@ -1,11 +1,6 @@
-use mathlib.Core.Path.{◌≡◌}
-use Prim.Native.Nat.{◌≤◌, ◌-◌}
-use lib.ListN.{length}
+use Rattle.std.proofs.Common.{◌-◌, length}
 use Rattle.typed_text.proofs.read_all.Given as goal
 
--- The bytes kept stay as many as were lent; each read adds at least one to those seen.
-abbrev pub invariant-loop-seen : goal.invariant-loop-seen
-invariant-loop-seen g l = (l.seen ≤ length l.kept) × (length l.kept ≡ length l.initial.kept)
-
-abbrev pub decreases-loop-seen : goal.decreases-loop-seen
-decreases-loop-seen g l = length l.kept - l.seen
+-- Each read adds at least one byte to those kept.
+abbrev pub decreases-loop-part : goal.decreases-loop-part
+decreases-loop-part g l = 4097 - length l.kept.items

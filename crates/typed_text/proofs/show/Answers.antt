@@ -1,22 +1,26 @@
+use Rattle.std.proofs.Common.{subst, arith, sym, ◌∙◌, ap, replicate}
+use lib.Seq.{length-take-le}
 use Rattle.definition.specs.Limits.{text_tray_length}
-use native.Mathlib.Omega.{arith}
-use Rattle.typed_text.proofs.Whole.{no_short, long_stands, offset_short, unreadable_stands, taken_room, taken_stands}
+use Rattle.reader.specs.Contract.{ReadText}
+use Rattle.refusal.specs.Number.{number_of}
+use Rattle.refusal.specs.declared.Refusal.{Refusal}
+use Rattle.frames.specs.Lines.{refusal_lines}
+use Rattle.typed_text.specs.Showing.{ShownAs}
+use Rattle.typed_text.proofs.Whole.{taken_room, taken_shown, refused_shown}
 use Rattle.typed_text.proofs.show.Goals as goal
 
-pub overflow_cast-at : goal.overflow_cast-at
-overflow_cast-at c = omega (arith, offset_short c.args.rules.now c.read_text-reading.new.tray text_tray_length c.read_text-reading.result c.read_text-reading.ensures c.in-Unreadable.is)
+pub slice_bounds-tray-end : goal.slice_bounds-tray-end
+slice_bounds-tray-end c = taken_room c.args.rules.now _ text_tray_length _ (subst (ReadText _ _ _) c.in-Ok.is c.read_text.ensures)
 
-pub tray_lines-requires : goal.tray_lines-requires
-tray_lines-requires c = taken_room c.args.rules.now c.read_text-reading.new.tray text_tray_length c.read_text-reading.result c.read_text-reading.ensures c.in-Taken.is
+pub slice_bounds-lines-end : goal.slice_bounds-lines-end
+slice_bounds-lines-end c = sym (length-take-le _ _ (taken_room c.args.rules.now _ text_tray_length _ (subst (ReadText _ _ _) c.in-Ok.is c.read_text.ensures)))
 
-pub returns-in-ShortTray : goal.returns-in-ShortTray
-returns-in-ShortTray c = no_short c.args.rules.now c.read_text-reading.new.tray text_tray_length c.read_text-reading.result c.read_text-reading.ensures c.in-ShortTray.is (omega arith)
+pub returns-in-Ok : goal.returns-in-Ok
+returns-in-Ok c = taken_shown c.args.rules.now _ text_tray_length _ _ (subst (ReadText _ _ _) c.in-Ok.is c.read_text.ensures) c.lines.ensures
 
-pub returns-in-LongText : goal.returns-in-LongText
-returns-in-LongText c = long_stands c.args.rules.now c.read_text-reading.new.tray text_tray_length c.read_text-reading.result c.read_text-reading.ensures c.in-LongText.is (c.refusal_lines.ensures.prefix_len, c.refusal_lines.ensures.text_after)
-
-pub returns-in-Unreadable : goal.returns-in-Unreadable
-returns-in-Unreadable c = unreadable_stands c.args.rules.now c.read_text-reading.new.tray text_tray_length c.read_text-reading.result c.read_text-reading.ensures c.in-Unreadable.is (c.refusal_lines-in-Unreadable.ensures.prefix_len, c.refusal_lines-in-Unreadable.ensures.text_after)
-
-pub returns-in-Taken : goal.returns-in-Taken
-returns-in-Taken c = taken_stands c.args.rules.now c.read_text-reading.new.tray text_tray_length c.read_text-reading.result c.read_text-reading.ensures c.in-Taken.is (c.tray_lines.ensures.prefix_len, c.tray_lines.ensures.text_after)
+pub returns-in-Err : goal.returns-in-Err
+returns-in-Err c =
+    subst (ShownAs c.args.rules.now c.refusal_lines.result.items) (sym c.offset_of.ensures)
+    (refused_shown c.args.rules.now c.read_text.new.tray text_tray_length c.in-Err.error c.refusal_lines.result.items
+    (subst (ReadText c.args.rules.now (replicate text_tray_length 0) c.read_text.new.tray) c.in-Err.is c.read_text.ensures) (omega arith)
+    (c.refusal_lines.ensures ∙ ap (λ (r : Refusal). refusal_lines (number_of r.reason) r.place) c.from.ensures))

@@ -1,17 +1,13 @@
-use Rattle.cases.specs.Bytes.{filled}
-use Rattle.cases.proofs.Between.{between_start, between_end, between_miss, between_next, read_equal, read_unequal}
+use mathlib.Core.Path.{refl}
+use lib.Dec.{eqb}
+use lib.ListN.{get_or}
+use borrow.Author.Rules.{rules}
+use borrow.Author.Tests.{tests}
+use Rattle.std.proofs.lemmas.Iterator.{YieldsList-from_range}
+use Rattle.std.proofs.lemmas.Iterator.Search.{all_from_yields_List}
+use Rattle.cases.specs.Bytes.{between, filled}
 use Rattle.cases.proofs.bytes.all.Goals as goal
 
-pub loop-i-init : goal.loop-i-init
-loop-i-init c = between_start _ _ _
-
-pub returns-then-byte-value : goal.returns-then-byte-value
-unfolding filled
-returns-then-byte-value c = between_miss c.loop-i.invariant c.loop-i-test.true (read_unequal c.byte.ensures c.if-byte-value.true)
-
-pub loop-i-preserved : goal.loop-i-preserved
-loop-i-preserved c = between_next c.loop-i.invariant c.loop-i-test.true (read_equal c.byte.ensures c.if-byte-value.false)
-
 pub returns : goal.returns
-unfolding filled
-returns c = between_end c.loop-i.invariant c.loop-i-test.false
+unfolding filled between
+returns c = all_from_yields_List (λ i. eqb (get_or c.args.s.now i 0) c.args.value) _ _ _ c.all.ensures.ran (YieldsList-from_range c.args.from c.args.to _ refl refl) (λ i b q k. search (rules, tests))

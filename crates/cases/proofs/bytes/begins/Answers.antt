@@ -1,17 +1,13 @@
-use Rattle.cases.specs.Bytes.{begins_with}
-use Rattle.cases.proofs.Between.{between_start, between_end, between_miss, between_next, read_equal, read_unequal}
+use mathlib.Core.Path.{refl}
+use lib.Dec.{eqb}
+use lib.ListN.{length, get_or}
+use borrow.Author.Rules.{rules}
+use borrow.Author.Tests.{tests}
+use Rattle.std.proofs.lemmas.Iterator.{YieldsList-from_range}
+use Rattle.std.proofs.lemmas.Iterator.Search.{all_from_yields_List}
+use Rattle.cases.specs.Bytes.{between, begins_with}
 use Rattle.cases.proofs.bytes.begins.Goals as goal
 
-pub loop-i-init : goal.loop-i-init
-loop-i-init c = between_start _ _ _
-
-pub returns-then-byte-t : goal.returns-then-byte-t
-unfolding begins_with
-returns-then-byte-t c = between_miss c.loop-i.invariant c.loop-i-test.true (read_unequal c.byte.ensures c.if-byte-t.true)
-
-pub loop-i-preserved : goal.loop-i-preserved
-loop-i-preserved c = between_next c.loop-i.invariant c.loop-i-test.true (read_equal c.byte.ensures c.if-byte-t.false)
-
 pub returns : goal.returns
-unfolding begins_with
-returns c = between_end c.loop-i.invariant c.loop-i-test.false
+unfolding begins_with between
+returns c = all_from_yields_List (λ i. eqb (get_or c.args.s.now i 0) (get_or c.args.t.now i 0)) _ _ _ c.all.ensures.ran (YieldsList-from_range 0 (length c.args.t.now) _ refl refl) (λ i b q k. search (rules, tests))

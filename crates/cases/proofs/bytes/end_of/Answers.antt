@@ -1,14 +1,12 @@
-use Rattle.cases.proofs.Words.{ending_start, ending_end, ending_space, ending_next}
+use lib.Dec.{eqb}
+use borrow.Author.Rules.{rules}
+use borrow.Author.Tests.{tests}
+use Rattle.std.proofs.lemmas.Iterator.{YieldsList-from_slice}
+use Rattle.std.proofs.lemmas.Iterator.Search.{position_from_yields_List}
+use Rattle.cases.proofs.Words.{ends_word, drop_min}
 use Rattle.cases.proofs.bytes.end_of.Goals as goal
 
-pub loop-i-init : goal.loop-i-init
-loop-i-init c = ending_start _ _
-
-pub returns-then-line-i-eq32 : goal.returns-then-line-i-eq32
-returns-then-line-i-eq32 c = ending_space c.loop-i.invariant c.loop-i-test.true c.if-line-i-eq32.true
-
-pub loop-i-preserved : goal.loop-i-preserved
-loop-i-preserved c = ending_next c.loop-i.invariant c.loop-i-test.true c.if-line-i-eq32.false
-
 pub returns : goal.returns
-returns c = ending_end c.loop-i.invariant c.loop-i-test.false
+returns c =
+    ends_word _ _ _ (drop_min _ _ c.min.ensures) (position_from_yields_List (λ b. eqb b 32) _ _ _ c.position.ensures.ran (YieldsList-from_slice _ c.iter.ensures.rest) (λ x b q k. search (rules, tests)))
+    c.unwrap_or.ensures

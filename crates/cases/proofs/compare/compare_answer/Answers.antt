@@ -1,14 +1,15 @@
-use Rattle.prover.specs.Said.{said}
-use Rattle.cases.specs.Compared.{answer_differs}
-use Rattle.cases.proofs.Differing.{verdict_differs_lem, then_trays, differs}
+use mathlib.Core.Path.{◌∙◌}
+use Rattle.cases.proofs.Differing.{handed_on, refusal_differs, verdict_fails, trays_decide}
 use Rattle.cases.proofs.compare.compare_answer.Goals as goal
 
-pub returns-in_default : goal.returns-in_default
-returns-in_default c = verdict_differs_lem _ _ _ _ c.in-Verdict.is c.compare_verdict-said.ensures (differs _ _ c.in_default.not-Nothing)
+pub returns-in-Err : goal.returns-in-Err
+returns-in-Err c = refusal_differs _ _ _ _ _ c.in-Err.is c.compare_full.ensures
 
-pub returns-in-Refusal : goal.returns-in-Refusal
-unfolding answer_differs said
-returns-in-Refusal c = rw c.in-Refusal.is c.compare_full.ensures
+pub returns-in_err-compare_verdict-in-Ok : goal.returns-in_err-compare_verdict-in-Ok
+returns-in_err-compare_verdict-in-Ok c =
+    handed_on _ c.from_residual.ensures.1
+    ∙ verdict_fails _ _ _ _ _ c.in-Ok.is c.compare_verdict.ensures c.in_err-compare_verdict-in-Ok.was
 
-pub returns-in-Nothing : goal.returns-in-Nothing
-returns-in-Nothing c = verdict_differs_lem _ _ _ _ c.in-Verdict.is c.compare_verdict-said.ensures (then_trays c.in-Nothing.is c.compare_trays.ensures)
+pub returns-in_ok-compare_verdict-in-Ok : goal.returns-in_ok-compare_verdict-in-Ok
+returns-in_ok-compare_verdict-in-Ok c =
+    trays_decide _ _ _ _ _ c.in-Ok.is c.compare_verdict.ensures c.in_ok-compare_verdict-in-Ok.was c.compare_trays.ensures

@@ -1,23 +1,24 @@
-use mathlib.Core.Path.{sym}
-use Prim.Native.Nat.{ℕ}
-use native.Mathlib.Omega.{arith}
-use lib.ListN.{length-replicate}
-use lib.Seq.{length-take-le}
-use borrow.Author.Tests.{lt-ltb}
-use borrow.Author.Rules.{rules}
-use Rattle.cases.specs.Compared.{difference_of}
-use Rattle.cases.proofs.Differing.{line_differs, too_many}
+use mathlib.Core.Path.{sym, ap, ◌∙◌}
+use Rattle.std.specs.Prelude.{Err}
+use Rattle.cases.proofs.Differing.{handed_on, no_form, a_number, no_byte, a_byte, no_flags, large_flags, line_differs}
 use Rattle.cases.proofs.compare.compare_line.Goals as goal
 
-pub returns-then-flags-gt255 : goal.returns-then-flags-gt255
-unfolding difference_of
-returns-then-flags-gt255 c = rw (← c.number_of-flags.ensures, lt-ltb _ _ c.if-flags-gt255.true)
+pub returns-in_err-number : goal.returns-in_err-number
+returns-in_err-number c =
+    let nothing = no_form c.ok_or.ensures.value c.in_err-number.was in
+    handed_on _ c.from_residual.ensures.1 ∙ ap Err nothing.1 ∙ no_flags _ (sym c.number_of.ensures ∙ nothing.0)
 
-pub returns-then-branch-n : goal.returns-then-branch-n
-returns-then-branch-n c = absurd (too_many _ (search rules) c.decode-n.ensures.value c.if-branch-n.true)
-
-pub slice_bounds-compare_call-end : goal.slice_bounds-compare_call-end
-slice_bounds-compare_call-end c = sym (length-take-le _ _ (search rules))
+pub returns-in_err-flags : goal.returns-in_err-flags
+returns-in_err-flags c =
+    let there = a_number c.ok_or.ensures.value c.in_ok-number.was in
+    let nothing = no_form c.ok_or-2.ensures.value c.in_err-flags.was in
+    handed_on _ c.from_residual-in_err-flags.ensures.1
+    ∙ ap Err nothing.1
+    ∙ large_flags _ (sym c.number_of.ensures ∙ there) (no_byte _ c.try_from.ensures c.ok.ensures.value nothing.0)
 
 pub returns : goal.returns
-returns c = line_differs _ _ _ _ _ _ _ _ c.number_of-flags.ensures (omega (arith, c.if-flags-gt255.false)) c.start_of-from.ensures c.end_of.ensures (length-replicate {A = ℕ} 2048 0) c.decode-n.ensures.value c.decode-n.ensures.out_after c.read_line.ensures c.compare_call.ensures
+returns c =
+    let there = a_number c.ok_or.ensures.value c.in_ok-number.was in
+    let small = a_number c.ok_or-2.ensures.value c.in_ok-flags.was in
+    line_differs _ (sym c.number_of.ensures ∙ there) (a_byte _ c.try_from.ensures c.ok.ensures.value small) c.start_of-from.ensures c.end_of.ensures
+    c.decode-branch.ensures c.as_slice.ensures.value c.read_line.ensures c.compare_call.ensures

@@ -1,17 +1,16 @@
+use mathlib.Core.Path.{refl}
+use Prim.Native.Nat.{◌+◌, ◌*◌}
+use lib.Dec.{eqb}
+use lib.ListN.{get_or}
+use Rattle.definition.specs.Limits.{record_length}
+use borrow.Author.Rules.{rules}
+use borrow.Author.Tests.{tests}
+use Rattle.std.proofs.lemmas.Iterator.{YieldsList-from_range}
+use Rattle.std.proofs.lemmas.Iterator.Search.{all_from_yields_List}
+use Rattle.cases.specs.Bytes.{between}
 use Rattle.cases.specs.Lent.{are_made}
-use Rattle.cases.proofs.Between.{between_start, between_end, between_miss, between_next, read_equal, read_unequal}
 use Rattle.cases.proofs.lent.are_made.Goals as goal
 
-pub loop-i-init : goal.loop-i-init
-loop-i-init c = between_start _ _ _
-
-pub returns-then-byte-ne0 : goal.returns-then-byte-ne0
-unfolding are_made
-returns-then-byte-ne0 c = between_miss c.loop-i.invariant c.loop-i-test.true (read_unequal c.byte.ensures c.if-byte-ne0.true)
-
-pub loop-i-preserved : goal.loop-i-preserved
-loop-i-preserved c = between_next c.loop-i.invariant c.loop-i-test.true (read_equal c.byte.ensures c.if-byte-ne0.false)
-
 pub returns : goal.returns
-unfolding are_made
-returns c = between_end c.loop-i.invariant c.loop-i-test.false
+unfolding are_made between
+returns c = all_from_yields_List (λ i. eqb (get_or c.args.formulas.now (record_length * i + 1) 0) 0) _ _ _ c.all.ensures.ran (YieldsList-from_range c.args.from c.args.to _ refl refl) (λ i b q k. search (rules, tests))

@@ -1,18 +1,14 @@
-use mathlib.Core.Path.{sym, ◌∙◌}
-use Rattle.cases.specs.Lent.{are_marked}
-use Rattle.cases.proofs.Between.{between_start, between_end, between_miss, between_next}
+use mathlib.Core.Path.{refl}
+use Prim.Native.Nat.{◌*◌}
+use Rattle.definition.specs.Limits.{node_length}
+use borrow.Author.Rules.{rules}
+use borrow.Author.Tests.{tests}
+use Rattle.std.proofs.lemmas.Iterator.{YieldsList-from_range}
+use Rattle.std.proofs.lemmas.Iterator.Search.{all_from_yields_List}
+use Rattle.cases.specs.Bytes.{between}
+use Rattle.cases.specs.Lent.{is_marked, are_marked}
 use Rattle.cases.proofs.lent.are_marked.Goals as goal
 
-pub loop-i-init : goal.loop-i-init
-loop-i-init c = between_start _ _ _
-
-pub returns-then-not-is_marked : goal.returns-then-not-is_marked
-unfolding are_marked
-returns-then-not-is_marked c = between_miss c.loop-i.invariant c.loop-i-test.true (sym c.is_marked.ensures ∙ c.if-not-is_marked.true)
-
-pub loop-i-preserved : goal.loop-i-preserved
-loop-i-preserved c = between_next c.loop-i.invariant c.loop-i-test.true (sym c.is_marked.ensures ∙ c.if-not-is_marked.false)
-
 pub returns : goal.returns
-unfolding are_marked
-returns c = between_end c.loop-i.invariant c.loop-i-test.false
+unfolding are_marked between
+returns c = all_from_yields_List (λ i. is_marked c.args.nodes.now (node_length * i)) _ _ _ c.all.ensures.ran (YieldsList-from_range 0 c.args.identifiers _ refl refl) (λ i b q k. search (rules, tests))

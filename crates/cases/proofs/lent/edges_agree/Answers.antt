@@ -1,18 +1,14 @@
-use mathlib.Core.Path.{refl, sym, ◌∙◌}
-use Rattle.cases.specs.Lent.{edges_agree}
-use Rattle.cases.proofs.Between.{between_start, between_end, between_miss, between_next, read_equal, read_unequal}
+use mathlib.Core.Path.{refl}
+use lib.Dec.{eqb}
+use lib.ListN.{length, get_or}
+use borrow.Author.Rules.{rules}
+use borrow.Author.Tests.{tests}
+use Rattle.std.proofs.lemmas.Iterator.{YieldsList-from_range}
+use Rattle.std.proofs.lemmas.Iterator.Search.{all_from_yields_List}
+use Rattle.cases.specs.Bytes.{between}
+use Rattle.cases.specs.Lent.{unused_row, edges_agree}
 use Rattle.cases.proofs.lent.edges_agree.Goals as goal
 
-pub loop-u-init : goal.loop-u-init
-loop-u-init c = between_start _ _ _
-
-pub returns-then-edges-u : goal.returns-then-edges-u
-unfolding edges_agree
-returns-then-edges-u c = between_miss c.loop-u.invariant c.loop-u-test.true (read_unequal refl (λ e. c.if-edges-u.true (e ∙ sym c.unused_row.ensures)))
-
-pub loop-u-preserved : goal.loop-u-preserved
-loop-u-preserved c = between_next c.loop-u.invariant c.loop-u-test.true (read_equal refl (c.if-edges-u.false ∙ c.unused_row.ensures))
-
 pub returns : goal.returns
-unfolding edges_agree
-returns c = between_end c.loop-u.invariant c.loop-u-test.false
+unfolding edges_agree between
+returns c = all_from_yields_List (λ i. eqb (get_or c.args.edges.now i 0) (unused_row i)) _ _ _ c.all.ensures.ran (YieldsList-from_range c.args.worlds (length c.args.edges.now) _ refl refl) (λ i b q k. search (rules, tests))

@@ -1,5 +1,0 @@
-use Rattle.cases.proofs.digest.+number.Given as goal
-
--- A number below 10 is one figure; any other is n / 10, which is smaller, and then its last figure.
-abbrev pub decreases-number : goal.decreases-number
-decreases-number l = l.n

@@ -1,6 +1,0 @@
-use Rattle.definition.specs.Records.{kind_of}
-use Rattle.formula.proofs.non.Goals as goal
-
-pub returns : goal.returns
-unfolding kind_of
-returns c = λ rs p. c.push_record.ensures rs p

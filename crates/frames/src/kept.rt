@@ -1,0 +1,86 @@
+// What is kept of an input.
+ghost use Rattle.std.specs.Prelude.{◌≡◌, ◌+◌, ◌≤◌, List, ℕ, ◌++◌, [], length, take, IfErr};
+ghost use Rattle.frames.specs.Window.{window, kept_with, Window};
+
+use crate::RunError;
+use limits::{MOST_RECORDS, RECORD_LENGTH};
+use std::io::Read;
+
+// The bytes of the longest branch.
+const WINDOW_LENGTH: usize = RECORD_LENGTH * MOST_RECORDS;
+
+// The least count that stands for a longer input.
+const OVER_LENGTH: usize = WINDOW_LENGTH + RECORD_LENGTH;
+
+// So many bytes are kept of an input: no count is greater.
+pub const KEPT_LENGTH: usize = OVER_LENGTH + RECORD_LENGTH - 1;
+
+// The count of bytes seen, with n more. It is exact up to WINDOW_LENGTH; beyond that it is the one
+// from OVER_LENGTH to KEPT_LENGTH that has the same remainder by RECORD_LENGTH, and so the same answer.
+fn add(seen: usize, n: usize) -> usize
+    ensures { result ≡ window (seen + n) }
+{
+    if seen <= WINDOW_LENGTH && n <= WINDOW_LENGTH - seen {
+        return seen + n;
+    }
+    OVER_LENGTH + (seen % RECORD_LENGTH + n % RECORD_LENGTH) % RECORD_LENGTH
+}
+
+// What is kept of an input of any length: its bytes as far as there is room, and the count of them
+// as the answer needs it.
+#[derive(Drop)]
+pub struct Kept {
+    bytes: [u8; KEPT_LENGTH],
+    seen: usize,
+    ghost counted: { window seen ≡ seen },
+}
+
+impl Kept {
+    // Nothing yet.
+    pub fn new() -> Kept
+        ensures { Window [] result.bytes result.seen }
+    {
+        Kept {
+            bytes: [0; KEPT_LENGTH],
+            seen: 0,
+        }
+    }
+
+    // A further part of the input, kept after the bytes seen as far as there is room.
+    pub fn keep(&mut self, part: &[u8])
+        ensures seen { self.new.seen ≡ window (self.old.seen + length part.now) }
+        ensures bytes { self.new.bytes ≡ kept_with self.old.bytes self.old.seen part.now }
+        ensures window { (whole : List ℕ) → Window whole self.old.bytes self.old.seen → Window (whole ++ part.now) self.new.bytes self.new.seen }
+    {
+        let seen = self.seen;
+        let n = part.len().min(KEPT_LENGTH - seen);
+        self.bytes[seen..seen + n].copy_from_slice(&part[..n]);
+        self.seen = add(seen, part.len());
+    }
+
+    // The bytes that the answer is given for.
+    pub fn branch(&self) -> &[u8]
+        ensures value { result.now ≡ take self.now.seen self.now.bytes }
+        ensures len { length result.now ≡ self.now.seen }
+    {
+        &self.bytes[..self.seen]
+    }
+
+    // Keeps an input in place of what was kept, read to its end. A proved loop has to end, and nothing
+    // says that the input does: the reads are counted, and after 2^64 - 1 of them, which no input
+    // reaches, it is a read error.
+    pub fn read_all<R: Read>(&mut self, input: &mut R) -> Result<(), RunError>
+        ensures { IfErr result (λ error. error ≡ RunError.ReadFailed) }
+    {
+        self.seen = 0;
+        let mut part = io::large_buffer();
+        for _ in 0..u64::MAX {
+            match input.read(&mut part) {
+                Ok(0) => return Ok(()),
+                Ok(n) => self.keep(&part[..n]),
+                Err(_) => return Err(RunError::ReadFailed),
+            }
+        }
+        Err(RunError::ReadFailed)
+    }
+}

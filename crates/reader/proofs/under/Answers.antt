@@ -1,7 +1,0 @@
-use mathlib.Core.Path.{refl, ap}
-use Prim.Native.Nat.{ℕ, ◌+◌, ◌-◌}
-use Rattle.reader.proofs.Levels.{put_as, step_as}
-use Rattle.reader.proofs.under.Goals as goal
-
-pub returns : goal.returns
-returns c = (put_as _ _ _ _ _ _ _ 0 0 c.count_of-n.ensures (ap (λ (n : ℕ). n - 1) c.count_of-n.ensures) refl c.put.ensures, step_as c.end_of.ensures (ap (λ (n : ℕ). n + 1) c.count_of-n.ensures) c.step_to.ensures)

@@ -1,0 +1,5 @@
+use Rattle.subtree.proofs.Rows.{rows_none}
+use Rattle.subtree.proofs.Items.new.Goals as goal
+
+pub returns : goal.returns
+returns c = rows_none
