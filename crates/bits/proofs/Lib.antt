@@ -1,3 +1,3 @@
-pub mod Power
+pub mod Words
 pub mod Laws
 pub mod Worlds

@@ -1,59 +1,21 @@
 -- Laws of a set of worlds in a word.
-use Prim.Native.Nat.{ℕ, zero, suc, ◌+◌, ◌-◌, ◌*◌, ◌/◌, ◌%◌, ◌^◌, ◌≤◌, ◌<◌, min, max}
+use Prim.Native.Nat.{ℕ, zero, suc, ◌+◌, ◌-◌, ◌*◌, ◌/◌, ◌%◌, ◌^◌, ◌≤◌, ◌<◌, min}
 use mathlib.Core.Path.{◌≡◌, refl, sym, ap, ap₂, ◌∙◌}
-use mathlib.Core.Bool.{Bool, true, false, cond, ◌&&◌, ◌||◌, and-false}
+use mathlib.Core.Bool.{Bool, true, false, cond, ◌&&◌, and-false}
 use mathlib.Core.List.{List, [], ◌∷◌, map}
 use native.Mathlib.Numerals.{add-one}
 use native.Mathlib.Omega.{arith}
-use lib.Bits.{bit_and, bit_or, and_step, or_step, and_shr, or_shr, and_self, and_le_r}
+use lib.Bits.{bit_and, and_step, and_self}
 use lib.Count.{count_trailing_zeros, under}
 use lib.Dec.{eqb, ltb}
-use lib.ListN.{length, get_or, drop}
-use lib.Pow.{shr-shr, shr_lt}
-use borrow.Author.Tests.{lt-ltb, le-ltb, ltb-true}
+use lib.ListN.{length}
+use lib.Pow.{shr_lt}
+use borrow.Author.Tests.{lt-ltb, le-ltb, ltb-true, eqb-true}
 use Rattle.definition.specs.Lists.{filter, below, up_from, elem}
 use Rattle.definition.proofs.Basics.Lists.{and_left, and_right, and_both, same_both, elem_each, each_filter, below_each, among_elem, among_filter, among_from}
 use Rattle.bits.specs.Bits.{bit_of}
 use Rattle.bits.specs.Worlds.{set_below, worlds_in}
-use Rattle.bits.proofs.Power.{no_bit}
-
--- ---- the bits of two words
-or_digit : (x y : ℕ) → x < 2 → y < 2 → eqb (max x y) 1 ≡ (eqb x 1 || eqb y 1)
-or_digit zero zero h k = refl
-or_digit zero (suc zero) h k = refl
-or_digit zero (suc (suc y)) h k = absurd (omega (arith, k))
-or_digit (suc zero) zero h k = refl
-or_digit (suc zero) (suc zero) h k = refl
-or_digit (suc zero) (suc (suc y)) h k = absurd (omega (arith, k))
-or_digit (suc (suc x)) y h k = absurd (omega (arith, h))
-
-and_digit : (x y : ℕ) → x < 2 → y < 2 → eqb (min x y) 1 ≡ (eqb x 1 && eqb y 1)
-and_digit zero zero h k = refl
-and_digit zero (suc zero) h k = refl
-and_digit zero (suc (suc y)) h k = absurd (omega (arith, k))
-and_digit (suc zero) zero h k = refl
-and_digit (suc zero) (suc zero) h k = refl
-and_digit (suc zero) (suc (suc y)) h k = absurd (omega (arith, k))
-and_digit (suc (suc x)) y h k = absurd (omega (arith, h))
-
-module _ (a b k : ℕ) where
-  abbrev x : ℕ
-  x = a / 2 ^ k
-
-  abbrev y : ℕ
-  y = b / 2 ^ k
-
-  pub union_bit : bit_of (bit_or a b) k ≡ (bit_of a k || bit_of b k)
-  unfolding bit_of
-  union_bit =
-      let e : bit_or x y % 2 ≡ max (x % 2) (y % 2) = omega (arith, or_step x y) in
-      rw (or_shr a b k, e) (or_digit (x % 2) (y % 2) (omega arith) (omega arith))
-
-  pub common_bit : bit_of (bit_and a b) k ≡ (bit_of a k && bit_of b k)
-  unfolding bit_of
-  common_bit =
-      let e : bit_and x y % 2 ≡ min (x % 2) (y % 2) = omega (arith, and_step x y) in
-      rw (and_shr a b k, e) (and_digit (x % 2) (y % 2) (omega arith) (omega arith))
+use Rattle.bits.proofs.Words.{no_bit, bit_zero, bit_suc}
 
 -- ---- the worlds by a test of each number
 filter_as : (p q : ℕ → Bool) (m j : ℕ) → ((k : ℕ) → j ≤ k → k < j + m → p k ≡ q k) → filter p (up_from m j) ≡ filter q (up_from m j)
@@ -99,6 +61,9 @@ worlds_elem word y = set_elem word y 32
 pub worlds_none : worlds_in 0 ≡ []
 worlds_none = worlds_as (λ _. false) 0 0 (omega arith) (λ k h. no_bit k ∙ sym (and-false (ltb k 0)))
 
+pub no_worlds : (word : ℕ) → eqb word 0 ≡ true → worlds_in word ≡ []
+no_worlds word e = rw (eqb-true word 0 e) worlds_none
+
 -- ---- the first world, digit by digit
 filter_suc : (p : ℕ → Bool) (m j : ℕ) → filter p (up_from m (suc j)) ≡ map suc (filter (λ i. p (suc i)) (up_from m j))
 filter_suc p zero j = refl
@@ -108,16 +73,6 @@ filter_suc p (suc m) j = go (p (suc j)) (filter_suc p m (suc j))
         → cond b (suc j ∷ filter p (up_from m (suc (suc j)))) (filter p (up_from m (suc (suc j)))) ≡ map suc (cond b (j ∷ filter (λ i. p (suc i)) (up_from m (suc j))) (filter (λ i. p (suc i)) (up_from m (suc j))))
     go true e = ap (λ (l : List ℕ). suc j ∷ l) e
     go false e = e
-
-bit_suc : (n i : ℕ) → bit_of n (suc i) ≡ bit_of (n / 2) i
-unfolding bit_of
-bit_suc n i =
-    let o : suc i ≡ 1 + i = omega arith in
-    ap (λ (z : ℕ). eqb (z % 2) 1) (ap (λ (z : ℕ). n / 2 ^ z) o ∙ sym (shr-shr n 1 i))
-
-bit_zero : (n : ℕ) → bit_of n 0 ≡ eqb (n % 2) 1
-unfolding bit_of
-bit_zero n = let e : n / 1 ≡ n = omega arith in ap (λ (z : ℕ). eqb (z % 2) 1) e
 
 -- the worlds of all but the lowest digit, and that digit
 later : (m n : ℕ) → filter (bit_of n) (up_from m 1) ≡ map suc (set_below m (n / 2))
@@ -173,26 +128,5 @@ pub worlds_first : (word : ℕ) → 0 < word → word < 2 ^ 32 → worlds_in wor
 unfolding worlds_in
 worlds_first word some low = set_first 32 word some low
 
--- a word with a world is not zero
-module _ (word v : ℕ) (vs : List ℕ) (e : worlds_in word ≡ v ∷ vs) (low : word < 2 ^ 32) where
-  some_world : 0 < word
-  some_world = go word e
-    where
-      go : (w : ℕ) → worlds_in w ≡ v ∷ vs → 0 < w
-      go zero h = absurd (omega (arith, ap length (sym worlds_none ∙ h)))
-      go (suc w) h = omega arith
-
-  both_ways : count_trailing_zeros 32 word ∷ worlds_in (bit_and word (word - 1)) ≡ v ∷ vs
-  both_ways = sym (worlds_first word some_world low) ∙ e
-
-  pub first_is : count_trailing_zeros 32 word ≡ v
-  first_is = ap (λ (l : List ℕ). get_or l 0 0) both_ways
-
-  pub others_are : worlds_in (bit_and word (word - 1)) ≡ vs
-  others_are = ap (drop 1) both_ways
-
-  pub no_others : word ≡ 0 → worlds_in 0 ≡ vs
-  no_others h = absurd (omega (arith, some_world, h))
-
-pub others_less : (word : ℕ) → 0 < word → bit_and word (word - 1) < word
-others_less word some = omega (arith, some, and_le_r word (word - 1))
+pub worlds_fewer : (word : ℕ) → 0 < word → word < 2 ^ 32 → length (worlds_in (bit_and word (word - 1))) < length (worlds_in word)
+worlds_fewer word some low = omega (arith, ap length (worlds_first word some low))

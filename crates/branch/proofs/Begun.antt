@@ -1,20 +1,18 @@
 -- The first nodes of a branch: their count, the loop of `branch_nodes`, the root, and the queue.
 use Prim.Native.Nat.{ℕ, ◌+◌, ◌<◌, ◌≤◌}
 use mathlib.Core.Path.{◌≡◌, refl, sym, ap, ◌∙◌, subst}
-use mathlib.Core.Bool.{Bool, true, false, cond}
-use mathlib.Core.List.{List, [], ◌∷◌, ◌++◌, map, append-nil}
+use mathlib.Core.List.{List, [], ◌∷◌, ◌++◌, map}
 use native.Mathlib.Numerals.{add-one}
 use native.Mathlib.Omega.{arith}
 use native.Mathlib.Decide.{dec_le}
-use borrow.Author.Tests.{eq-eqb, ne_eqb, eqb-true, eqb-false}
-use lib.Dec.{eqb}
+use borrow.Author.Tests.{eq-eqb, ne_eqb}
 use lib.ListN.{length, drop, drop_of_length-le}
 use lib.Seq.{drop-cons, set-get_or}
 use Rattle.definition.specs.Limits.{most_identifiers, most_formulas}
 use Rattle.arrays.specs.Listed.{Listed}
 use Rattle.definition.specs.Lists.{up_from}
 use Rattle.definition.specs.Records.{Rec, nobody, marks_from, rec_at}
-use Rattle.definition.specs.Tree.{Node, Place, Root, Middle, new_node, placed_below, set_child, link, link_chain}
+use Rattle.definition.specs.Tree.{Node, Root, Middle, new_node, placed_below, set_child, link, link_chain}
 use Rattle.definition.specs.Queue.{push_tree_node}
 use Rattle.definition.specs.Run.{rooted, branch_nodes, begun}
 use Rattle.definition.proofs.Tree.Nodes.{blank}
@@ -25,7 +23,8 @@ use Rattle.formula.proofs.Recorded.{recorded_count}
 use Rattle.tree.specs.declared.Chain.{Chain}
 use Rattle.tree.specs.declared.ProofTree.{ProofTree}
 use Rattle.tree.specs.Chain.{chain_of, empty_chain, ChainBelow, Spans, DrawnFrom}
-use Rattle.tree.specs.Lay.{place_code, lay, Lays, Held, HasNodes}
+use Rattle.tree.specs.declared.ProofTreeNode.{ProofTreeNode}
+use Rattle.tree.specs.Lay.{lay, Lays, Held, HasNodes}
 use Rattle.tree.proofs.Chains.{drawn_none, spans_below, spans_chain}
 use Rattle.tree.proofs.Nodes.{held_ok, held_long, held_as}
 use Rattle.branch.proofs.Growth.{Growth, growth_start, growth_as, growth_next, growth_end}
@@ -69,20 +68,19 @@ module _ (rs : List Rec) where
         grown = growth_as _ from_first (growth_start p);
       }
 
-  module _ {x : Formulas} (p : HasRecords rs x) (few : x.count ≤ most_formulas) {made : Chain} {t : ProofTree} (i : ℕ) (g : Beginning rs made t i) where
-    module _ (m : ℕ) (h : i < x.count) (e : m ≡ (rec_at rs i).mark) where
-      made_next : (b : Bool) {u : ProofTree} → b ≡ eqb m 1 → ((ns : List Node) → HasNodes ns t → HasNodes (ns ++ cond b (new_node nobody i 0 ∷ []) []) u) → Growth (λ ns. HasNodes ns u) (branch_nodes rs) (nodes_from rs (i + 1))
-      made_next true z f = growth_next (new_node nobody i 0) f (growth_as _ (from_marked i (omega (arith, recorded_count p few)) (sym e ∙ eqb-true m 1 (sym z))) g.grown)
-      made_next false z f =
-          let r = growth_as _ (from_unmarked i (omega (arith, recorded_count p few)) (λ y. eqb-false m 1 (sym z) (e ∙ y))) g.grown in
-          record { made = r.made; has = held_as r.made (append-nil r.made) (f r.made r.has); same = r.same }
+  module _ {x : Formulas} (p : HasRecords rs x) (few : x.records.len ≤ most_formulas) {made : Chain} {t : ProofTree} (i : ℕ) (g : Beginning rs made t i) where
+    module _ (m : ℕ) (h : i < x.records.len) (e : m ≡ (rec_at rs i).mark) where
+      -- record i read, which is marked, and its node made
+      pub beginning_marked : {more : Chain} {u : ProofTree} → m ≡ 1 →
+          ((lo : ℕ) → DrawnFrom lo made t.len → DrawnFrom lo more u.len) × ((ns : List Node) → HasNodes ns t → HasNodes (ns ++ (new_node nobody i 0 ∷ [])) u) → Beginning rs more u (i + 1)
+      beginning_marked z f =
+          record { drawn = f.0 0 g.drawn; grown = growth_next (new_node nobody i 0) f.1 (growth_as _ (from_marked i (omega (arith, recorded_count p few)) (sym e ∙ z)) g.grown) }
 
-      -- record i read, and its node made if it is marked
-      pub beginning_next : {b : Bool} {more : Chain} {u : ProofTree} → b ≡ eqb m 1 →
-          ((lo : ℕ) → DrawnFrom lo made t.len → DrawnFrom lo more u.len) × ((ns : List Node) → HasNodes ns t → HasNodes (ns ++ cond b (new_node nobody i 0 ∷ []) []) u) → Beginning rs more u (i + 1)
-      beginning_next {b} z f = record { drawn = f.0 0 g.drawn; grown = made_next b z f.1 }
+      -- which is not marked
+      pub beginning_unmarked : (m ≡ 1 → ⊥) → Beginning rs made t (i + 1)
+      beginning_unmarked z = record { drawn = g.drawn; grown = growth_as _ (from_unmarked i (omega (arith, recorded_count p few)) (λ y. z (e ∙ y))) g.grown }
 
-    pub beginning_end : x.count ≤ i → DrawnFrom 0 made t.len × HasNodes (branch_nodes rs) t
+    pub beginning_end : x.records.len ≤ i → DrawnFrom 0 made t.len × HasNodes (branch_nodes rs) t
     beginning_end h = (g.drawn, growth_end (growth_as _ (from_last i (omega (arith, recorded_count p few))) g.grown))
 
 -- ---- the root
@@ -97,7 +95,7 @@ root_chained (x ∷ xs) = ap (λ (ms : List Node). link_chain ms 0 Middle (up_fr
 
 -- the chain of all nodes, linked from its top on
 pub rooted_linked : (ns : List Node) (c : Chain) {t u : ProofTree} → DrawnFrom 0 c t.len × HasNodes ns t →
-    (u.len ≡ t.len) × ((ms : List Node) (q : Place) → place_code q ≡ 0 → HasNodes ms t → (length ms ≤ most_identifiers → ChainBelow c (length ms)) → HasNodes (link_chain ms nobody q (chain_of c)) u) →
+    (u.len ≡ t.len) × ((ms : List Node) → HasNodes ms t → (length ms ≤ most_identifiers → ChainBelow c (length ms)) → HasNodes (link_chain ms nobody Root (chain_of c)) u) →
     HasNodes (rooted ns) u
 rooted_linked ns c {t} {u} (d, p) (same, f) = elim (dec_le t.len most_identifiers) [
   | yes h ↦
@@ -105,12 +103,12 @@ rooted_linked ns c {t} {u} (d, p) (same, f) = elim (dec_le t.len most_identifier
       let e = (held_ok p h).0 in
       let n : c.count ≡ length ns = omega (arith, s.ends, e) in
       held_as (rooted ns) (ap (link_chain ns nobody Root) (spans_chain s ∙ ap (λ (k : ℕ). up_from k 0) n) ∙ root_chained ns)
-      (f ns Root refl p (λ _. omega (arith, spans_below s, e)))
-  | no h ↦ subst (λ (k : ℕ). Held (rooted ns) k u.cells) (sym same) (held_long (rooted ns) p (omega (arith, h)) (omega (arith, length_rooted ns)))
+      (f ns p (λ _. omega (arith, spans_below s, e)))
+  | no h ↦ subst (λ (k : ℕ). Held (rooted ns) k u.nodes) (sym same) (held_long (rooted ns) p (omega (arith, h)) (omega (arith, length_rooted ns)))
 ]
 
 -- ---- the queue
-pub queued : (rs : List Rec) {len m n : ℕ} {t a b : List ℕ} → length (branch_nodes rs) ≡ len → len ≤ most_identifiers →
+pub queued : (rs : List Rec) {len m n : ℕ} {t : List ProofTreeNode} {a b : List ℕ} → length (branch_nodes rs) ≡ len → len ≤ most_identifiers →
     ((ns : List Node) (q : List ℕ) → Lays ns t → Listed q m a → Listed (push_tree_node len ns q 0) n b) →
     t ≡ lay (rooted (branch_nodes rs)) → Listed [] m a → Listed (begun rs).waiting n b
 unfolding begun

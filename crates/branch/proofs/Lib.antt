@@ -1,3 +1,2 @@
 pub mod Growth
-pub mod Reading
 pub mod Begun

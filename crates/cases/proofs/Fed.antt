@@ -6,22 +6,24 @@ use mathlib.Core.List.{List, [], ◌∷◌, ◌++◌}
 use native.Mathlib.Omega.{arith}
 use native.Mathlib.Nat.{mul-add-mod_self_left}
 use lib.Dec.{ltb}
-use borrow.Author.Tests.{lt-ltb, le-ltb, ltb-false, eq-eqb, ne_eqb}
+use borrow.Author.Tests.{lt-ltb, le-ltb, ltb-false}
 use Rattle.slices.specs.Text.{decimal_within, decimal_of}
 use Rattle.cases.specs.declared.digest.Digest.{Digest}
-use Rattle.cases.specs.Text.{fed, Fed, number_or_none}
+use Rattle.cases.specs.Text.{fed}
 
-fed_append : (d : Digest) (xs ys : List ℕ) → fed d (xs ++ ys) ≡ fed (fed d xs) ys
+pub fed_append : (d : Digest) (xs ys : List ℕ) → fed d (xs ++ ys) ≡ fed (fed d xs) ys
 unfolding fed
 fed_append d [] ys = refl
 fed_append d (x ∷ xs) ys = fed_append (record { first = (d.first * 257 + x) % 2147483647; second = (d.second * 257 + x) % 2147483629 }) xs ys
 
-pub and_then : {d r q : Digest} {xs ys : List ℕ} → Fed d xs r → Fed r ys q → Fed d (xs ++ ys) q
-and_then {d} {r} {q} {xs} {ys} e h = record { is = h.is ∙ ap (λ (x : Digest). fed x ys) e.is ∙ sym (fed_append d xs ys) }
+pub fed_cons : (d : Digest) (x : ℕ) (xs : List ℕ) → fed d (x ∷ xs) ≡ fed (fed d (x ∷ [])) xs
+fed_cons d x xs = fed_append d (x ∷ []) xs
 
-pub fed_none : (d : Digest) → Fed d [] d
+pub fed_none : (d : Digest) → fed d [] ≡ d
 unfolding fed
-fed_none d = record { is = refl }
+fed_none d = refl
+
+pub ruleset feeding = (fed_append, fed_cons, fed_none)
 
 -- a remainder taken earlier
 wrapped : (m x b : ℕ) → m * (x / m * 257) + (x % m * 257 + b) ≡ x * 257 + b → (x % m * 257 + b) % m ≡ (x * 257 + b) % m
@@ -31,14 +33,11 @@ abbrev pair : ℕ → ℕ → Digest
 pair x y = record { first = x; second = y }
 
 pub fed_one : (d : Digest) (b : ℕ)
-    → Fed d (b ∷ []) (pair ((d.first % 2147483647 * 257 + b) % 2147483647) ((d.second % 2147483629 * 257 + b) % 2147483629))
+    → fed d (b ∷ []) ≡ pair ((d.first % 2147483647 * 257 + b) % 2147483647) ((d.second % 2147483629 * 257 + b) % 2147483629)
 unfolding fed
 fed_one d b =
-    record {
-      is =
-          ap (λ (x : ℕ). pair x ((d.second % 2147483629 * 257 + b) % 2147483629)) (wrapped 2147483647 d.first b (omega arith))
-          ∙ ap (pair ((d.first * 257 + b) % 2147483647)) (wrapped 2147483629 d.second b (omega arith));
-    }
+    sym (ap (λ (x : ℕ). pair x ((d.second % 2147483629 * 257 + b) % 2147483629)) (wrapped 2147483647 d.first b (omega arith))
+    ∙ ap (pair ((d.first * 257 + b) % 2147483647)) (wrapped 2147483629 d.second b (omega arith)))
 
 -- ---- numbers
 cond_else : {A : Type 0} (b : Bool) (x y z : A) → (b ≡ false → y ≡ z) → cond b x y ≡ cond b x z
@@ -55,28 +54,14 @@ within_more (suc k) (suc j) n h g =
     (cond_else (ltb n 10) [] (decimal_within k (n / 10)) (decimal_within j (n / 10))
     (λ q. within_more k j (n / 10) (omega (arith, ltb-false n 10 q)) (omega (arith, ltb-false n 10 q))))
 
-decimal_one : (n : ℕ) → n < 10 → decimal_of n ≡ (48 + n % 10) ∷ []
+pub decimal_one : (n : ℕ) → n < 10 → decimal_of n ≡ (48 + n % 10) ∷ []
 unfolding decimal_of decimal_within
 decimal_one zero h = refl
 decimal_one (suc n) h = rw (lt-ltb (suc n) 10 h)
 
-decimal_more : (n : ℕ) → 10 ≤ n → decimal_of n ≡ decimal_of (n / 10) ++ ((48 + n % 10) ∷ [])
+pub decimal_more : (n : ℕ) → 10 ≤ n → decimal_of n ≡ decimal_of (n / 10) ++ ((48 + n % 10) ∷ [])
 unfolding decimal_of decimal_within
 decimal_more zero h = absurd (omega arith)
 decimal_more (suc n) h =
     rw (le-ltb (suc n) 10 h)
     (ap (λ (s : List ℕ). s ++ ((48 + suc n % 10) ∷ [])) (within_more n (suc n / 10) (suc n / 10) (omega arith) (omega arith)))
-
-pub one_figure : {d r : Digest} (n : ℕ) → n < 10 → Fed d ((48 + n % 10) ∷ []) r → Fed d (decimal_of n) r
-one_figure n h e = rw (decimal_one n h) e
-
-pub more_figures : {d r q : Digest} (n : ℕ) → 10 ≤ n → Fed d (decimal_of (n / 10)) r → Fed r ((48 + n % 10) ∷ []) q → Fed d (decimal_of n) q
-more_figures n h e g = rw (decimal_more n h) (and_then e g)
-
-pub dash : {d r : Digest} (n : ℕ) → n ≡ 65535 → Fed d (45 ∷ []) r → Fed d (number_or_none n) r
-unfolding number_or_none
-dash n h e = rw (eq-eqb n 65535 h) e
-
-pub some_number : {d r : Digest} (n : ℕ) → (n ≡ 65535 → ⊥) → Fed d (decimal_of n) r → Fed d (number_or_none n) r
-unfolding number_or_none
-some_number n h e = rw (ne_eqb n 65535 h) e

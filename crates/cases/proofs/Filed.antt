@@ -9,10 +9,9 @@ use lib.Dec.{eqb, ltb}
 use lib.ListN.{length, take, get_or}
 use lib.Seq.{take-suc}
 use borrow.Author.Tests.{lt-ltb, le-ltb, eq-eqb, ne_eqb}
-use Rattle.std.specs.Prelude.{Option, Some, Result, Ok, Err, IsOk, IsErr, OnOk, OnErr}
-use Rattle.std.specs.declared.io.Error.{Error}
+use Rattle.std.specs.Prelude.{Result, Ok, Err, IsOk, OnOk, OnErr}
 use Rattle.cases.specs.Tally.{one_failed, finished, Since}
-use Rattle.cases.specs.File.{Reading, taken, all_taken, file_start, tally_of, FileRead, whole, broken, reading_of, longest_line, Takes, Went, failed, went}
+use Rattle.cases.specs.File.{Reading, taken, all_taken, file_start, tally_of, FileRead, whole, broken, reading_of, longest_line, Takes}
 use Rattle.cases.specs.declared.reading.Tally.{Tally}
 use Rattle.cases.proofs.Tallied.{since_same, since_then, since_finished, since_end, since_report}
 
@@ -67,10 +66,6 @@ takes_next part i {b} l e h k =
     let z : take (i + 1) part ≡ take i part ++ (b ∷ []) = rw (add-one, take-suc part i 0 l, e) in
     rw z (takes_then h k)
 
-pub went_not : (line : List ℕ) (t : Tally) (after : List ℕ) (m : Result (Option Tally) Error) → IsErr m → Went line t after m
-went_not line t after (Ok x) h = absurd (cc)
-went_not line t after (Err e) h = failed e
-
 -- ---- the file
 -- some bytes have brought the empty line to this one
 pub record Begun (t : Tally) (line : List ℕ) (r : Tally) : Type 0 where
@@ -81,19 +76,12 @@ pub begun_start : (t : Tally) {r : Tally} {line : List ℕ} → line ≡ [] → 
 unfolding all_taken
 begun_start t h e = record { bytes = []; is = rw (h, e) }
 
-pub begun_next :
-    (t : Tally) (line after : List ℕ) (s r : Tally) {m : Result (Option Tally) Error} →
-    Begun t line s →
-    Went line s after m →
-    m ≡ Ok (Some r) →
-    Begun t after r
-begun_next t line after s r h w e = go (rw e at w) where
-  go : Went line s after (Ok (Some r)) → Begun t after r
-  go (went bytes x k) =
-      record {
-        bytes = h.bytes ++ bytes;
-        is = k.is ∙ rw h.is (sym (all_taken_append longest_line (record { held = []; tally = file_start t }) h.bytes bytes));
-      }
+pub begun_next : (t : Tally) (line bytes after : List ℕ) (s r : Tally) → Begun t line s → Takes line s bytes after r → Begun t after r
+begun_next t line bytes after s r h k =
+    record {
+      bytes = h.bytes ++ bytes;
+      is = k.is ∙ rw h.is (sym (all_taken_append longest_line (record { held = []; tally = file_start t }) h.bytes bytes));
+    }
 
 begun_tally : (t : Tally) (line : List ℕ) (r : Tally) (h : Begun t line r) → r ≡ tally_of t h.bytes
 unfolding tally_of

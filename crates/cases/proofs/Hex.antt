@@ -72,6 +72,8 @@ module _ {digits : List ℕ} {n i : ℕ} (p : Hexing digits n i) where
                 ∙ step;
           }
 
+pub ruleset hexing = (too_short, first_eight, hexing_end, hexing_low, hexing_none, hexing_next)
+
 -- ---- n bytes are written
 map_snoc : (f : ℕ → ℕ) (n s : ℕ) → map f (up_from (suc n) s) ≡ map f (up_from n s) ++ (f (s + n) ∷ [])
 map_snoc f zero s = let z : s ≡ s + 0 = omega arith in ap (λ (j : ℕ). f j ∷ []) z
@@ -92,6 +94,8 @@ decoded_none line from = refl
 
 pub decoded_next : (line : List ℕ) (from n : ℕ) {b : ℕ} {out : List ℕ} → out ≡ decoded line from n → b ≡ hex_byte line (from + 2 * n) → out ++ (b ∷ []) ≡ decoded line from (n + 1)
 decoded_next line from n e h = rw (e, h, add-one) (sym (decoded_more line from n))
+
+pub ruleset decoding = (length_decoded, decoded_none, decoded_next)
 
 pub decoded_all :
     (line : List ℕ) (from to : ℕ) {end digits half count n : ℕ} {out : List ℕ} →

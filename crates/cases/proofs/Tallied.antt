@@ -37,6 +37,8 @@ module _ (line : List ℕ) (t : Tally) where
   unfolding finished
   finished_case h q = rw (empty_some line h, ne_eqb _ _ q)
 
+pub ruleset finishing = (finished_empty, finished_comment, finished_case)
+
 -- ---- cases and failures do not fall
 one_more_lem : (n : ℕ) → (one_more n ≡ n + 1) ⊎ ((one_more n ≡ n) × (1000000000 ≤ n))
 unfolding one_more

@@ -121,6 +121,8 @@ module _ {line : List ℕ} {k spaces i : ℕ} (p : Starting line k spaces i) whe
         = starting_byte e ∙ rw (ne_eqb (get_or line i 0) 32 q.0, d) in
         record { few = omega (arith, p.few); left = rw add-one (omega (arith, p.left)) }
 
+pub ruleset starting = (starting_end, starting_found, starting_next)
+
 -- ---- decimal digits: n is read from those before i
 pub record Summing (digits : List ℕ) (n i : ℕ) : Type 0 where
   pub left : decimal_after n (drop i digits) ≡ decimal_after 0 digits
@@ -152,6 +154,8 @@ module _ {digits : List ℕ} {n i : ℕ} (p : Summing digits n i) where
 
       pub summing_next : k ≤ 9 → n ≤ 99999 → Summing digits (10 * n + k) (i + 1)
       summing_next g l = record { left = rw add-one (sym (rw (le-ltb 9 k g, le-ltb 99999 n l)) ∙ summed) }
+
+pub ruleset summing = (summing_end, summing_none, summing_letter, summing_large, summing_next)
 
 -- ---- word k as a number
 module _ (line : List ℕ) (k : ℕ) {w : List ℕ} (e : w ≡ word_at line k) where

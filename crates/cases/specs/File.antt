@@ -1,7 +1,6 @@
 -- The counts of a file, from its bytes.
-use Rattle.std.specs.Prelude.{◌≡◌, cond, List, [], ◌∷◌, ◌++◌, ℕ, eqb, ltb, length, Option, Some, None, Result, Ok, Err}
+use Rattle.std.specs.Prelude.{◌≡◌, cond, List, [], ◌∷◌, ◌++◌, ℕ, eqb, ltb, length}
 use Rattle.cases.specs.Tally.{one_failed, finished}
-use Rattle.std.specs.declared.io.Error.{Error}
 use Rattle.cases.specs.declared.reading.Tally.{Tally}
 
 -- the line so far, and the counts
@@ -44,9 +43,3 @@ longest_line = 4096
 -- the bytes bring one line and tally to the other
 pub record Takes (line : List ℕ) (t : Tally) (bytes after : List ℕ) (r : Tally) : Type 0 where
   pub is : reading_of after r ≡ all_taken longest_line (reading_of line t) bytes
-
--- some bytes do, if there was more to read
-pub data Went (line : List ℕ) (t : Tally) (after : List ℕ) : Result (Option Tally) Error → Type 0 where
-  failed : (e : Error) → Went line t after (Err e)
-  ended : Went line t after (Ok None)
-  went : (bytes : List ℕ) (r : Tally) → Takes line t bytes after r → Went line t after (Ok (Some r))

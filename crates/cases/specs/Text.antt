@@ -12,10 +12,6 @@ unfoldable pub fed : Digest → List ℕ → Digest
 fed d [] = d
 fed d (b ∷ bs) = fed (record { first = (d.first * 257 + b) % 2147483647; second = (d.second * 257 + b) % 2147483629 }) bs
 
--- r is d after these bytes
-pub record Fed (d : Digest) (bytes : List ℕ) (r : Digest) : Type 0 where
-  pub is : r ≡ fed d bytes
-
 unfoldable pub digest_of : List ℕ → Digest
 digest_of = fed (record { first = 0; second = 0 })
 

@@ -6,12 +6,13 @@ ghost use Rattle.refusal.specs.Number.{number_of as number_of_reason};
 ghost use Rattle.cases.specs.Bytes.{hex_after};
 ghost use Rattle.cases.specs.Compared.{expected_of, digest_in, verdict_letter, counts_differ, digest_differs, trays_differ, full_differs, verdict_differs, answer_differs, call_differs, difference_of};
 
-use crate::bytes::{byte, decode, end_of, hex_number, number_of, start_of};
+use crate::bytes::{decode, end_of, hex_number, number_of, start_of};
 use crate::digest::Digest;
 use crate::lent::{Trays, are_zero, edges_agree, formulas_agree, nodes_agree};
 use limits::{EDGE_TRAY_LENGTH, FORMULA_TRAY_LENGTH, NODE_TRAY_LENGTH};
 use prover::{Verdict, prove};
 use refusal::{Reason, Refusal};
+use slices::byte_at;
 use std::fmt;
 
 // So many bytes are lent beyond a tray, and one number beyond the edges.
@@ -43,7 +44,7 @@ impl fmt::Display for Difference {
     }
 }
 
-// What a line expects, of the words that it has; the verdict by its first letter.
+// What a line expects, of the words that it has; the verdict by its first letter, which may be any byte.
 #[derive(Clone, Copy, Default)]
 struct Expected {
     letter: Option<u8>,
@@ -54,7 +55,7 @@ struct Expected {
 }
 
 // The two numbers of a digest, eight digits each.
-#[tactic(auto, unfolding(crate::specs::Compared::digest_in))]
+#[tactic(auto, using(crate::proofs::Hex::not_short), unfolding(crate::specs::Compared::digest_in))]
 fn read_digest(digits: &[u8]) -> Option<Digest>
     ensures { result ≡ digest_in (hex_after 8 0 digits.now) (hex_after 8 0 (drop 8 digits.now)) }
 {
@@ -63,6 +64,7 @@ fn read_digest(digits: &[u8]) -> Option<Digest>
     Some(Digest { first, second })
 }
 
+#[tactic(auto, unfolding(crate::specs::Compared::expected_of))]
 fn read_line(line: &[u8]) -> Expected
     ensures { result ≡ expected_of line.now }
 {
@@ -71,7 +73,7 @@ fn read_line(line: &[u8]) -> Expected
         return Expected::default();
     }
     Expected {
-        letter: Some(byte(line, start_of(line, 2))),
+        letter: Some(byte_at(line, start_of(line, 2))),
         identifiers: number_of(line, 3),
         worlds: number_of(line, 4),
         steps: number_of(line, 5),
@@ -79,7 +81,7 @@ fn read_line(line: &[u8]) -> Expected
     }
 }
 
-// The first letter of the verdict; none of one that would be proved and late.
+// The first letter of the verdict, as a line of the cases has it; none of one that would be proved and late.
 #[tactic(auto, unfolding(crate::specs::Compared::verdict_letter))]
 fn letter(verdict: Verdict) -> Option<u8>
     ensures { result ≡ verdict_letter verdict.proved verdict.late }
@@ -164,6 +166,7 @@ fn compare_verdict(expected: Expected, verdict: Verdict) -> Result<(), Differenc
 }
 
 // The answer, and the trays that the call left.
+#[tactic(auto, unfolding(crate::specs::Compared::answer_differs, prover::specs::Said::said, crate::specs::Compared::or_else))]
 fn compare_answer(
     expected: Expected,
     branch: &[u8],
@@ -182,6 +185,7 @@ fn compare_answer(
 }
 
 // The call with these flags, on trays that are longer than asked and filled with 255.
+#[tactic(auto, unfolding(crate::specs::Compared::call_differs, crate::specs::Compared::lent_trays))]
 fn compare_call(expected: Expected, branch: &[u8], flags: u8) -> Result<(), Difference>
     ensures { result ≡ call_differs expected branch.now flags }
 {
@@ -198,6 +202,7 @@ fn compare_call(expected: Expected, branch: &[u8], flags: u8) -> Result<(), Diff
 }
 
 // The line's branch and flags through the call.
+#[tactic(auto, unfolding(crate::specs::Compared::difference_of, crate::specs::Compared::flagged_differs, crate::specs::Compared::branch_of))]
 pub fn compare_line(line: &[u8]) -> Result<(), Difference>
     ensures { result ≡ difference_of line.now }
 {

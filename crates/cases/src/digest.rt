@@ -3,11 +3,12 @@ ghost use Rattle.std.specs.Prelude.{◌≡◌, [], ◌∷◌, ◌++◌, ◌+◌,
 ghost use Rattle.definition.specs.Limits.{most_formulas};
 ghost use Rattle.slices.specs.Text.{decimal_of};
 ghost use Rattle.cases.specs.Bytes.{two_at};
-ghost use Rattle.cases.specs.Text.{Fed, digest_of, number_or_none, letter_of, has_one, name_of, LinksAt, formula_text, formula_or_comment, node_line, node_lines, edge_line, edges_from, text_of};
+ghost use Rattle.cases.specs.Text.{fed, digest_of, number_or_none, letter_of, has_one, name_of, LinksAt, record_by, formula_text, formula_or_comment, node_line, node_lines, edge_line, edges_from, text_of};
 
-use crate::bytes::{byte, two};
+use crate::bytes::two;
 use crate::lent::Trays;
 use limits::{EDGE_TRAY_LENGTH, MOST_FORMULAS, MOST_IDENTIFIERS, NODE_LENGTH, RECORD_LENGTH};
+use slices::byte_at;
 
 // The digest of what is written so far. Each method writes a piece behind it.
 #[derive(Clone, Copy, Debug, PartialEq, Eq)]
@@ -22,8 +23,9 @@ impl Digest {
         second: 0,
     };
 
+    #[tactic(auto, using(crate::proofs::Fed::fed_one))]
     fn byte(self, b: u8) -> Digest
-        ensures { Fed self (b ∷ []) result }
+        ensures { result ≡ fed self (b ∷ []) }
     {
         let n = u64::from(b);
         let first = self.first % 2147483647 * 257 + n;
@@ -35,14 +37,15 @@ impl Digest {
     }
 
     fn figure(self, n: usize) -> Digest
-        ensures { Fed self ((48 + n % 10) ∷ []) result }
+        ensures { result ≡ fed self ((48 + n % 10) ∷ []) }
     {
         self.byte(b'0' + (n % 10) as u8)
     }
 
     // A number in decimal.
+    #[tactic(auto, using(crate::proofs::Fed::feeding, crate::proofs::Fed::decimal_one, crate::proofs::Fed::decimal_more))]
     fn number(self, n: usize) -> Digest
-        ensures { Fed self (decimal_of n) result }
+        ensures { result ≡ fed self (decimal_of n) }
     {
         if n < 10 {
             return self.figure(n);
@@ -51,18 +54,20 @@ impl Digest {
     }
 
     // A number of a node, or a dash for none.
-    fn number_or_none(self, n: usize) -> Digest
-        ensures { Fed self (number_or_none n) result }
+    #[tactic(auto, unfolding(crate::specs::Text::number_or_none))]
+    fn number_or_none(self, n: u16) -> Digest
+        ensures { result ≡ fed self (number_or_none n) }
     {
-        if n == 65535 {
+        if n == u16::MAX {
             return self.byte(b'-');
         }
-        self.number(n)
+        self.number(usize::from(n))
     }
 
     // An atom, or the letter of a kind.
+    #[tactic(auto, using(crate::proofs::Fed::fed_cons), unfolding(crate::specs::Text::name_of))]
     fn name(self, kind: u8, left: usize) -> Digest
-        ensures { Fed self (name_of kind left) result }
+        ensures { result ≡ fed self (name_of kind left) }
     {
         if kind == 0 {
             return self.byte(b'A').number(left);
@@ -71,8 +76,9 @@ impl Digest {
     }
 
     // Formula f written out by its links. A link that is not to an earlier record stops.
+    #[tactic(auto, using(crate::proofs::Fed::feeding, crate::proofs::Formulas::no_record), unfolding(crate::specs::Text::record_by, crate::specs::Text::linked))]
     fn formula(self, tray: &[u8], f: usize) -> Digest
-        ensures { Fed self (formula_text tray.now f) result }
+        ensures { result ≡ fed self (formula_text tray.now f) }
     {
         if MOST_FORMULAS <= f {
             return self.byte(b'?');
@@ -95,32 +101,36 @@ impl Digest {
         first.byte(b',').formula(tray, links.right).byte(b')')
     }
 
-    fn formula_or_comment(self, tray: &[u8], f: usize) -> Digest
-        ensures { Fed self (formula_or_comment tray.now f) result }
+    #[tactic(auto, unfolding(crate::specs::Text::formula_or_comment))]
+    fn formula_or_comment(self, tray: &[u8], f: u16) -> Digest
+        ensures { result ≡ fed self (formula_or_comment tray.now f) }
     {
-        if f == 65535 {
+        if f == u16::MAX {
             return self.byte(b'#');
         }
-        self.formula(tray, f)
+        self.formula(tray, usize::from(f))
     }
 
     // A byte as a number, and a space.
+    #[tactic(auto, using(crate::proofs::Fed::feeding))]
     fn small(self, tray: &[u8], i: usize) -> Digest
-        ensures { Fed self (decimal_of (get_or tray.now i 0) ++ (32 ∷ [])) result }
+        ensures { result ≡ fed self (decimal_of (get_or tray.now i 0) ++ (32 ∷ [])) }
     {
-        self.number(usize::from(byte(tray, i))).byte(b' ')
+        self.number(usize::from(byte_at(tray, i))).byte(b' ')
     }
 
     // The number of a node or none in two bytes, and what ends it.
+    #[tactic(auto, using(crate::proofs::Fed::feeding))]
     fn link(self, tray: &[u8], i: usize, end: u8) -> Digest
-        ensures { Fed self (number_or_none (two_at tray.now i) ++ (end ∷ [])) result }
+        ensures { result ≡ fed self (number_or_none (two_at tray.now i) ++ (end ∷ [])) }
     {
         self.number_or_none(two(tray, i)).byte(end)
     }
 
     // The line of the node whose record stands at a position.
+    #[tactic(auto, using(crate::proofs::Fed::feeding), unfolding(crate::specs::Text::node_line, slices::specs::Text::line_of_words))]
     fn node_line(self, nodes: &[u8], formulas: &[u8], at: usize) -> Digest
-        ensures { Fed self (node_line nodes.now formulas.now at) result }
+        ensures { result ≡ fed self (node_line nodes.now formulas.now at) }
     {
         if nodes.len() <= at {
             return self;
@@ -135,8 +145,9 @@ impl Digest {
     }
 
     // The line of an edge, if the lowest bit is set.
+    #[tactic(auto, using(crate::proofs::Fed::feeding), unfolding(crate::specs::Text::edge_line))]
     fn edge_line(self, u: usize, v: usize, bits: u32) -> Digest
-        ensures { Fed self (edge_line u v bits) result }
+        ensures { result ≡ fed self (edge_line u v bits) }
     {
         if bits % 2 == 1 {
             return self.number(u).byte(b'>').number(v).byte(b'\n');
@@ -146,7 +157,7 @@ impl Digest {
 
     // The lines of the edges from world u: bit v of its number says that u reaches v.
     fn row(self, u: usize, bits: u32) -> Digest
-        ensures { Fed self (edges_from u bits) result }
+        ensures { result ≡ fed self (edges_from u bits) }
     {
         let mut text = self;
         for v in 0..32 {
@@ -178,7 +189,7 @@ fn node_lines(nodes: &[u8], formulas: &[u8], identifiers: usize) -> Digest
     text
 }
 
-// The letter of a kind.
+// The letter of a kind; a tray's byte may be any number, so that a kind is no enum here.
 #[tactic(auto, unfolding(crate::specs::Text::letter_of))]
 fn letter(kind: u8) -> u8
     ensures { result ≡ letter_of kind }
@@ -194,7 +205,7 @@ fn has_one(kind: u8) -> bool
     !matches!(kind, 2..=6)
 }
 
-// The record of a formula: its kind and its two links.
+// The record of a formula: its kind, which may be any byte, and its two links.
 #[derive(Clone, Copy)]
 struct Links {
     kind: u8,
@@ -203,15 +214,17 @@ struct Links {
 }
 
 impl Links {
+    #[tactic(auto, using(crate::proofs::Formulas::text_by))]
     fn at(tray: &[u8], f: usize) -> Links
         requires { f < most_formulas }
-        ensures { LinksAt tray.now f result.kind result.left result.right }
+        ensures links { LinksAt tray.now f result.kind result.left result.right }
+        ensures text { formula_text tray.now f ≡ record_by (formula_text tray.now) f result.kind result.left result.right }
     {
         let at = RECORD_LENGTH * f;
         Links {
-            kind: byte(tray, at),
-            left: two(tray, at + 2),
-            right: two(tray, at + 4),
+            kind: byte_at(tray, at),
+            left: usize::from(two(tray, at + 2)),
+            right: usize::from(two(tray, at + 4)),
         }
     }
 }

@@ -3,11 +3,12 @@ ghost use Rattle.std.specs.Prelude.{◌≡◌, ◌≤◌};
 ghost use Rattle.definition.specs.Limits.{most_identifiers, most_formulas};
 ghost use Rattle.cases.specs.Lent.{is_marked, are_marked, are_made, is_ended, nodes_agree, formulas_agree, unused_row, edges_agree, are_zero};
 
-use crate::bytes::{all, begins, byte, two};
+use crate::bytes::{all, begins, two};
 use limits::{
     EDGE_TRAY_LENGTH, FORMULA_TRAY_LENGTH, MOST_FORMULAS, MOST_IDENTIFIERS, NODE_LENGTH,
     NODE_TRAY_LENGTH, RECORD_LENGTH,
 };
+use slices::byte_at;
 
 // The trays as the call left them.
 #[derive(Clone, Copy)]
@@ -22,11 +23,11 @@ pub struct Trays<'a> {
 fn is_marked(nodes: &[u8], at: usize) -> bool
     ensures { result ≡ is_marked nodes.now at }
 {
-    if nodes.len() <= at || byte(nodes, at + 11) != 0 {
+    if nodes.len() <= at || byte_at(nodes, at + 11) != 0 {
         return false;
     }
-    let has_contrarian = two(nodes, at + 8) != 65535;
-    byte(nodes, at + 10) == u8::from(has_contrarian)
+    let has_contrarian = two(nodes, at + 8) != u16::MAX;
+    byte_at(nodes, at + 10) == u8::from(has_contrarian)
 }
 
 fn are_marked(nodes: &[u8], identifiers: usize) -> bool
@@ -41,7 +42,7 @@ fn are_made(formulas: &[u8], from: usize, to: usize) -> bool
     requires { to ≤ most_formulas }
     ensures { result ≡ are_made formulas.now from to }
 {
-    (from..to).all(|i| byte(formulas, RECORD_LENGTH * i + 1) == 0)
+    (from..to).all(|i| byte_at(formulas, RECORD_LENGTH * i + 1) == 0)
 }
 
 // What is written ends in zeros, and what lies beyond the tray is as it was lent.

@@ -1,19 +1,19 @@
 // A file of vectors, line by line.
 ghost use Rattle.std.specs.Prelude.{◌≡◌, [], ◌∷◌};
 ghost use Rattle.cases.specs.Tally.{one_more, one_line, one_case, one_failed, judged, finished, Since};
-ghost use Rattle.cases.specs.File.{FileRead, file_start, Takes, Went};
+ghost use Rattle.cases.specs.File.{FileRead, file_start, Takes};
 
 use crate::compare::{Difference, compare_line};
 use arrayvec::ArrayVec;
+use frames::read_full;
 use std::fmt::Display;
-use std::io;
 use std::io::Read;
 
 // The longest line that is held whole.
 const LONGEST_LINE: usize = 4096;
 
-// So many reads are the most of a file.
-const MOST_READS: u64 = 1 << 40;
+// So many parts are the most of a file.
+const MOST_PARTS: u64 = 1 << 40;
 
 // A line so far. What has no room is dropped, and the line is then not of the form.
 type Line = ArrayVec<u8, LONGEST_LINE>;
@@ -73,15 +73,11 @@ impl Tally {
     }
 }
 
-pub fn write<P: Print>(rt: &P, text: &[u8]) {
-    let _ = rt.write_all(text);
-}
-
 // A failing line: the file's name, the line's number and what differs.
 pub fn report<P: Print, D: Display + Drop>(rt: &P, name: &[u8], tally: Tally, what: D) -> Tally
     ensures { result ≡ one_failed tally }
 {
-    write(rt, name);
+    let _ = rt.write_all(name);
     let _ = println!(rt; ":{} {what}", tally.line);
     tally.with_failure()
 }
@@ -97,6 +93,7 @@ fn judge<P: Print>(rt: &P, name: &[u8], tally: Tally, compared: Result<(), Diffe
 }
 
 // A whole line; one that begins with # is a comment.
+#[tactic(auto, using(crate::proofs::Tallied::finishing))]
 fn finish<P: Print>(rt: &P, name: &[u8], line: &[u8], tally: Tally) -> Tally
     ensures { result ≡ finished line.now tally }
 {
@@ -108,6 +105,7 @@ fn finish<P: Print>(rt: &P, name: &[u8], line: &[u8], tally: Tally) -> Tally
 }
 
 // One byte more.
+#[tactic(auto, using(crate::proofs::Filed::takes_newline))]
 fn feed<P: Print>(rt: &P, name: &[u8], line: &mut Line, tally: Tally, b: u8) -> Tally
     ensures { Takes line.old.items tally (b ∷ []) line.new.items result }
 {
@@ -120,6 +118,7 @@ fn feed<P: Print>(rt: &P, name: &[u8], line: &mut Line, tally: Tally, b: u8) -> 
     tally
 }
 
+#[tactic(auto, using(crate::proofs::Filed::takes_none))]
 fn feed_all<P: Print>(rt: &P, name: &[u8], line: &mut Line, tally: Tally, part: &[u8]) -> Tally
     ensures { Takes line.old.items tally part.now line.new.items result }
 {
@@ -130,36 +129,23 @@ fn feed_all<P: Print>(rt: &P, name: &[u8], line: &mut Line, tally: Tally, part: 
     after
 }
 
-// One more read: the tally after it, or none at the end.
-fn read_more<P: Print, R: Read>(
-    rt: &P,
-    file: &mut R,
-    name: &[u8],
-    line: &mut Line,
-    tally: Tally,
-) -> io::Result<Option<Tally>>
-    ensures { Went line.old.items tally line.new.items result }
-{
-    let mut part = [0u8; 4096];
-    let count = file.read(&mut part)?;
-    if count == 0 {
-        return Ok(None);
-    }
-    Ok(Some(feed_all(rt, name, line, tally, &part[..count])))
-}
-
-// The file to its end, in at most 2^40 reads.
+// The file to its end, in at most 2^40 parts.
+#[tactic(auto, using(crate::proofs::Filed::begun_start, crate::proofs::Filed::begun_next))]
 pub fn read_file<P: Print, R: Read>(rt: &P, file: &mut R, name: &[u8], tally: Tally) -> Tally
     ensures file_read { FileRead tally result }
     ensures since { Since 1 tally result }
 {
     let mut line = Line::new();
     let mut at = tally.at_start();
-    for _ in 0..MOST_READS {
-        match read_more(rt, file, name, &mut line, at) {
-            Err(_) => return report(rt, name, at, "can't be read"),
-            Ok(None) => return at,
-            Ok(Some(after)) => at = after,
+    let mut part = io::buffer();
+    for _ in 0..MOST_PARTS {
+        let (count, outcome) = read_full(file, &mut part);
+        at = feed_all(rt, name, &mut line, at, &part[..count]);
+        if outcome.is_err() {
+            return report(rt, name, at, "can't be read");
+        }
+        if count < part.len() {
+            return at;
         }
     }
     report(rt, name, at, "is too long")

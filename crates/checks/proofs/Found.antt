@@ -1,13 +1,11 @@
 -- The first check that applies, of parts that are joined.
-use mathlib.Core.Path.{◌≡◌, refl, sym, ap, ◌∙◌}
-use mathlib.Core.Bool.{true, false}
-use mathlib.Core.List.{List, [], ◌∷◌, ◌++◌}
+use mathlib.Core.Path.{◌≡◌, sym, ap, ◌∙◌}
+use mathlib.Core.List.{List, [], ◌++◌}
 use mathlib.Core.Option.{Option, none, some}
 use Prim.Native.Nat.{ℕ, ◌≤◌, ◌/◌}
-use native.Mathlib.Omega.{arith}
 use lib.ListN.{length}
 use Rattle.definition.specs.Limits.{record_length, most_records}
-use Rattle.definition.specs.Lists.{or_else, empty}
+use Rattle.definition.specs.Lists.{or_else}
 use Rattle.definition.specs.Records.{decode}
 use Rattle.definition.specs.Checks.{Check, Lengths, sheet_checks, flag_checks, tray_checks, record_checks, mark_checks, checks, first_of, refused}
 use Rattle.definition.proofs.Basics.Lists.{find_append}
@@ -20,15 +18,6 @@ module _ (cs ds : List Check) where
 
   pub found_after : none ≡ first_of cs → first_of ds ≡ first_of (cs ++ ds)
   found_after e = ap (λ (q : Option Check). or_else q (first_of ds)) e ∙ sym (find_append (λ (c : Check). c.applies) cs ds)
-
--- a list is empty if and only if its length is 0
-pub empty_none : (l : List ℕ) (n : ℕ) → n ≡ length l → n ≡ 0 → empty l ≡ true
-empty_none [] n e h = refl
-empty_none (x ∷ l) n e h = absurd (omega arith)
-
-pub empty_some : (l : List ℕ) (n : ℕ) → n ≡ length l → (n ≡ 0 → ⊥) → empty l ≡ false
-empty_some [] n e h = absurd (h e)
-empty_some (x ∷ l) n e h = refl
 
 -- ---- the whole: each part in its order, where none before it applies
 module _ (bytes : List ℕ) (flags : ℕ) (lent : Lengths) where

@@ -4,13 +4,12 @@ use mathlib.Core.Path.{◌≡◌, refl, sym, ap, ◌∙◌, subst}
 use mathlib.Core.Bool.{Bool, true, false, ◌&&◌, and-true, and_assoc, and-false}
 use mathlib.Core.List.{List, [], ◌∷◌, ◌++◌, map}
 use mathlib.Core.Option.{Option}
-use mathlib.Core.Logic.{◌≢◌}
 use native.Mathlib.Omega.{arith}
 use lib.ListN.{length}
 use Rattle.definition.specs.Limits.{most_identifiers}
 use Rattle.definition.specs.Lists.{all, filter, empty, up_from}
 use Rattle.definition.specs.Records.{Rec, nobody}
-use Rattle.definition.specs.Tree.{Node, Place, Root, Left, Middle, Right, Unplaced, node_at, is_leaf, leaves}
+use Rattle.definition.specs.Tree.{Node, node_at, is_leaf, leaves}
 use Rattle.definition.specs.Subtree.{takes}
 use Rattle.definition.specs.Contradiction.{Pair, is_pair, mark, mark_all, pairs}
 use Rattle.definition.proofs.Tree.Nodes.{length_marks}
@@ -19,41 +18,26 @@ use Rattle.definition.proofs.Run.TreeKept.{marks_keep}
 use Rattle.definition.specs.Shortcuts.{pair_of, bare_at, pair_at, closed_at, new_pairs, NoPairAbove, CheckedAt}
 use Rattle.definition.proofs.Engine.NewLeaves.{above_marked, pair_at_marked, closed_at_marked, open_new, since_marks, since_open}
 use Rattle.tree.specs.declared.ProofTree.{ProofTree}
-use Rattle.tree.specs.Lay.{Laid, place_code, Held, HasNodes}
+use Rattle.tree.specs.declared.ProofTreeNode.{ProofTreeNode}
+use Rattle.tree.specs.Lay.{Laid, Held, HasNodes}
 use Rattle.tree.proofs.Nodes.{held_ok, held_lays, held_as, held_long}
 
 -- ---- the path of one node
-code_placed : (p : Place) {v : ℕ} → v ≡ place_code p → v ≢ 65535 → placed p ≡ true
-unfolding placed
-code_placed Root e h = refl
-code_placed Left e h = refl
-code_placed Middle e h = refl
-code_placed Right e h = refl
-code_placed Unplaced e h = absurd (h e)
-
-code_loose : (p : Place) {v : ℕ} → v ≡ place_code p → v ≡ 65535 → placed p ≡ false
-unfolding placed
-code_loose Root e h = absurd (omega (arith, e, h))
-code_loose Left e h = absurd (omega (arith, e, h))
-code_loose Middle e h = absurd (omega (arith, e, h))
-code_loose Right e h = absurd (omega (arith, e, h))
-code_loose Unplaced e h = refl
-
 module _ (rs : List Rec) (t : List Node) (x : ℕ) {u : ProofTree} (h : HasNodes t u) where
   not_bare : bare_at t x ≡ false → HasNodes (mark t (pair_at rs t x)) u × (true ≡ closed_at rs t x)
   unfolding mark
   not_bare e = rw e (h, refl)
 
-  pub path_loose : {v : ℕ} → v ≡ place_code (node_at t x).place → v ≡ 65535 → HasNodes (mark t (pair_at rs t x)) u × (true ≡ closed_at rs t x)
-  path_loose e q = not_bare (ap (λ (b : Bool). b && is_leaf (node_at t x).children) (code_loose (node_at t x).place e q))
+  pub path_loose : {v : Bool} → v ≡ placed (node_at t x).place → v ≡ false → HasNodes (mark t (pair_at rs t x)) u × (true ≡ closed_at rs t x)
+  path_loose e q = not_bare (ap (λ (b : Bool). b && is_leaf (node_at t x).children) (sym e ∙ q))
 
   pub path_inner : {b : Bool} → b ≡ is_leaf (node_at t x).children → b ≡ false → HasNodes (mark t (pair_at rs t x)) u × (true ≡ closed_at rs t x)
   path_inner e q = not_bare (rw (sym e ∙ q) (and-false (placed (node_at t x).place)))
 
-pub path_marked : (rs : List Rec) (t : List Node) (x : ℕ) (o : Option Pair) {v : ℕ} {z : ProofTree} {b r : Bool} → v ≡ place_code (node_at t x).place → v ≢ 65535 →
+pub path_marked : (rs : List Rec) (t : List Node) (x : ℕ) (o : Option Pair) {v : Bool} {z : ProofTree} {b r : Bool} → v ≡ placed (node_at t x).place → v ≡ true →
     b ≡ is_leaf (node_at t x).children → b ≡ true → (In (spots t) x → o ≡ pair_of rs t x) → HasNodes (mark t o) z → r ≡ is_pair o → HasNodes (mark t (pair_at rs t x)) z × (r ≡ closed_at rs t x)
 path_marked rs t x o {z = z} e q d leaf found marked told =
-    let i = code_placed (node_at t x).place e q in
+    let i = sym e ∙ q in
     let bare : bare_at t x ≡ true = rw i (sym d ∙ leaf) in
     rw bare (subst (λ (p : Option Pair). HasNodes (mark t p) z) (found i) marked, told ∙ ap is_pair (found i))
 
@@ -108,7 +92,7 @@ module _ {rs : List Rec} {t : List Node} {old : ℕ} {u : ProofTree} {every : Bo
 
 -- ---- the whole check
 -- too many nodes stay too many
-pub marked_full : {ns : List Node} {len : ℕ} {a : List ℕ} (ps : List (Option Pair)) → Held ns len a → most_identifiers < len → Held (mark_all ns ps) len a
+pub marked_full : {ns : List Node} {len : ℕ} {a : List ProofTreeNode} (ps : List (Option Pair)) → Held ns len a → most_identifiers < len → Held (mark_all ns ps) len a
 marked_full {ns} ps p h = held_long (mark_all ns ps) p h (omega (arith, length_marks ps ns))
 
 module _ (rs : List Rec) (t : List Node) {old : ℕ} {y z : ProofTree} {every : Bool} (s : CheckedAt rs t old) (h : HasNodes t y) (few : y.len ≤ most_identifiers) (kept : z.len ≡ y.len)

@@ -22,7 +22,7 @@ use formula::Formulas;
 use graph::PossibleWorld;
 use limits::MOST_IDENTIFIERS;
 use semantics::{Claim, claim_of, contradicts, is_no_literal};
-use tree::{PLACE_UNPLACED, ProofTree, ProofTreeNodeID, id_at};
+use tree::{ProofTree, ProofTreeNodeID, id_at};
 
 // A node and an earlier one of its path that contradict one another.
 #[derive(Clone, Copy, Debug, PartialEq, Eq)]
@@ -41,7 +41,7 @@ fn are_nodes_contradictory(
     y: ProofTreeNodeID,
 ) -> bool
     ensures { (rs : List Rec) (ns : List Node) (x : ℕ) → Claims rs (formula_of rs (node_at ns x).formula) c → world.0 ≡ (node_at ns x).world
-        → HasRecords rs formulas.now → formulas.now.count ≤ most_formulas → Laid ns tree.now → result ≡ are_nodes_contradictory rs ns x y.0 }
+        → HasRecords rs formulas.now → formulas.now.records.len ≤ most_formulas → Laid ns tree.now → result ≡ are_nodes_contradictory rs ns x y.0 }
 {
     world == tree.world_of(y) && contradicts(c, formulas, tree.formula_of(y))
 }
@@ -53,7 +53,7 @@ fn find_above(
     tree: &ProofTree,
     x: ProofTreeNodeID,
 ) -> Option<Contradiction>
-    ensures { (rs : List Rec) (ns : List Node) → Claims rs (formula_of rs (node_at ns x.0).formula) c → HasRecords rs formulas.now → formulas.now.count ≤ most_formulas → length ns ≡ tree.now.len → Laid ns tree.now
+    ensures { (rs : List Rec) (ns : List Node) → Claims rs (formula_of rs (node_at ns x.0).formula) c → HasRecords rs formulas.now → formulas.now.records.len ≤ most_formulas → length ns ≡ tree.now.len → Laid ns tree.now
         → found result ≡ map (pair x.0) (partner rs ns x.0) }
 {
     let world = tree.world_of(x);
@@ -76,7 +76,7 @@ fn find_above(
 
 // x and the first node from the root that contradicts it. A formula that says and denies nothing needs no search.
 fn find_earlier(formulas: &Formulas, tree: &ProofTree, x: ProofTreeNodeID) -> Option<Contradiction>
-    ensures { (rs : List Rec) (ns : List Node) → HasRecords rs formulas.now → formulas.now.count ≤ most_formulas → length ns ≡ tree.now.len → Laid ns tree.now
+    ensures { (rs : List Rec) (ns : List Node) → HasRecords rs formulas.now → formulas.now.records.len ≤ most_formulas → length ns ≡ tree.now.len → Laid ns tree.now
         → found result ≡ map (pair x.0) (partner rs ns x.0) }
 {
     let c = claim_of(formulas, tree.formula_of(x));
@@ -93,7 +93,7 @@ fn get_contradictory_node_ids(
     old: usize,
     leaf: ProofTreeNodeID,
 ) -> Option<Contradiction>
-    ensures { (rs : List Rec) (ns : List Node) → HasRecords rs formulas.now → formulas.now.count ≤ most_formulas → length ns ≡ tree.now.len → Laid ns tree.now
+    ensures { (rs : List Rec) (ns : List Node) → HasRecords rs formulas.now → formulas.now.records.len ≤ most_formulas → length ns ≡ tree.now.len → Laid ns tree.now
         → NoPairAbove rs ns old → In (spots ns) leaf.0 → old ≤ leaf.0 → found result ≡ pair_of rs ns leaf.0 }
 {
     let mut cur = leaf;
@@ -125,10 +125,10 @@ fn mark_pair(tree: &mut ProofTree, c: Option<Contradiction>)
 // Marks the pair of the path of x, if x is a leaf; whether it is none or has a pair.
 fn mark_path(formulas: &Formulas, tree: &mut ProofTree, old: usize, x: ProofTreeNodeID) -> bool
     ensures { (tree.new.len ≡ tree.old.len)
-        × ((rs : List Rec) (ns : List Node) → HasRecords rs formulas.now → formulas.now.count ≤ most_formulas → HasNodes ns tree.old → tree.old.len ≤ most_identifiers → NoPairAbove rs ns old → old ≤ x.0
+        × ((rs : List Rec) (ns : List Node) → HasRecords rs formulas.now → formulas.now.records.len ≤ most_formulas → HasNodes ns tree.old → tree.old.len ≤ most_identifiers → NoPairAbove rs ns old → old ≤ x.0
         → HasNodes (mark ns (pair_at rs ns x.0)) tree.new × (result ≡ closed_at rs ns x.0)) }
 {
-    if tree.place_of(x) == PLACE_UNPLACED {
+    if !tree.is_placed(x) {
         return true;
     }
     if tree.is_leaf(x) {
@@ -142,7 +142,7 @@ fn mark_path(formulas: &Formulas, tree: &mut ProofTree, old: usize, x: ProofTree
 // Marks path by path, by the new leaves; whether each has a pair.
 fn mark_paths(formulas: &Formulas, tree: &mut ProofTree, old: usize) -> bool
     ensures { (tree.new.len ≡ tree.old.len)
-        × ((rs : List Rec) (ns : List Node) → HasRecords rs formulas.now → formulas.now.count ≤ most_formulas → HasNodes ns tree.old → tree.old.len ≤ most_identifiers → NoPairAbove rs ns old
+        × ((rs : List Rec) (ns : List Node) → HasRecords rs formulas.now → formulas.now.records.len ≤ most_formulas → HasNodes ns tree.old → tree.old.len ≤ most_identifiers → NoPairAbove rs ns old
         → HasNodes (mark_all ns (new_pairs rs ns old (tree.old.len - old))) tree.new × (result ≡ all (closed_at rs ns) (up_from (tree.old.len - old) old))) }
 {
     let mut every = true;
@@ -159,7 +159,7 @@ fn mark_paths(formulas: &Formulas, tree: &mut ProofTree, old: usize) -> bool
 fn is_closed(tree: &ProofTree) -> bool
     ensures { (ns : List Node) → Treed ns → length ns ≡ tree.now.len → Laid ns tree.now → result ≡ empty (filter (takes ns 0) (leaves ns)) }
 {
-    let mut open = Numbers::new();
+    let mut open = Numbers::new(0);
     tree.takers(ProofTreeNodeID::ROOT, &mut open);
     open.len == 0
 }
@@ -168,7 +168,7 @@ fn is_closed(tree: &ProofTree) -> bool
 // The tree was checked when it had `old` nodes; it was not proved then, so without a new node it is not now.
 pub fn check_for_contradictions(formulas: &Formulas, tree: &mut ProofTree, old: usize) -> bool
     ensures { (tree.new.len ≡ tree.old.len)
-        × ((rs : List Rec) (ns : List Node) → HasRecords rs formulas.now → formulas.now.count ≤ most_formulas → HasNodes ns tree.old → (tree.old.len ≤ most_identifiers → CheckedAt rs ns old)
+        × ((rs : List Rec) (ns : List Node) → HasRecords rs formulas.now → formulas.now.records.len ≤ most_formulas → HasNodes ns tree.old → (tree.old.len ≤ most_identifiers → CheckedAt rs ns old)
         → HasNodes (mark_all ns (pairs rs ns (leaves ns))) tree.new × (tree.old.len ≤ most_identifiers → result ≡ all is_pair (pairs rs ns (leaves ns)))) }
 {
     if MOST_IDENTIFIERS < tree.len {

@@ -11,6 +11,7 @@ use Rattle.definition.proofs.Basics.Lists.{alike}
 use Rattle.definition.specs.Setting.{Setting}
 use Rattle.definition.specs.Queue.{priority_of}
 use Rattle.formula.specs.Priority.{priority_by}
+use Rattle.formula.specs.declared.Record.{Record}
 use Rattle.formula.specs.Recorded.{missing, Recorded}
 use Rattle.formula.proofs.Recorded.{recorded_count, rec_at_far}
 
@@ -20,7 +21,7 @@ unfolding formula_of
 formula_record rs f h = rw (ne_eqb f 65535 h) refl
 
 -- what is said alike of a comment and of a record that is not there can be read from the number's record
-pub formula_as : {A : Type 0} {rs : List Rec} {n : ℕ} {a : List ℕ} (g : Rec → A) → g (made Comment 0 0) ≡ g missing
+pub formula_as : {A : Type 0} {rs : List Rec} {n : ℕ} {a : List Record} (g : Rec → A) → g (made Comment 0 0) ≡ g missing
     → Recorded rs n a → n ≤ most_formulas → (f : ℕ) → g (formula_of rs f) ≡ g (rec_at rs f)
 unfolding formula_of
 formula_as {A} {rs} g e p h f =
@@ -31,7 +32,7 @@ formula_as {A} {rs} g e p h f =
 
 -- ---- classes
 -- the class by kinds is the class by records
-pub class_of : (F : Setting) {rs : List Rec} {n : ℕ} {a : List ℕ} (f k l i v : ℕ) → Recorded rs n a → n ≤ most_formulas
+pub class_of : (F : Setting) {rs : List Rec} {n : ℕ} {a : List Record} (f k l i v : ℕ) → Recorded rs n a → n ≤ most_formulas
     → k ≡ number_of (formula_of rs f).kind → l ≡ (rec_at rs f).left → i ≡ number_of (rec_at rs l).kind → v ≡ priority_by k i → v ≡ priority_of F rs (formula_of rs f)
 unfolding priority_by priority_of number_of
 class_of F {rs} f k l i v p h dk dl di dv =

@@ -1,38 +1,34 @@
--- The records in one array of `most_formulas` rows, four numbers to a row: kind, mark, left, right. Zeros stand after the last record.
-use Rattle.std.specs.Prelude.{ℕ, zero, suc, ◌≤◌, ◌<◌, ◌≡◌, List, [], ◌∷◌, length}
+-- The records in a table of `most_formulas` entries.
+use Rattle.std.specs.Prelude.{ℕ, ◌≤◌, ◌<◌, ◌≡◌, List, map}
 use Rattle.definition.specs.Limits.{most_formulas}
-use Rattle.limits.specs.Arrays.{formula_cells}
-use Rattle.definition.specs.Lists.{concat_map, padded}
 use Rattle.definition.specs.Records.{nobody, Rec, Unknown, made, number_of, kind_of}
+use Rattle.arrays.specs.Table.{Tabled}
+use Rattle.formula.specs.declared.Record.{Record}
 use Rattle.formula.specs.declared.Formulas.{Formulas}
-
--- field j of a record
-abbrev pub column : ℕ → Rec → ℕ
-column zero r = number_of r.kind
-column (suc zero) r = r.mark
-column (suc (suc zero)) r = r.left
-column (suc (suc (suc j))) r = r.right
 
 -- what `rec_at` says of a record that is not there
 abbrev pub missing : Rec
 missing = made Unknown 0 0
 
--- the row of a record
-abbrev pub cells : Rec → List ℕ
-cells r = number_of r.kind ∷ r.mark ∷ r.left ∷ r.right ∷ []
+-- the entry of a record
+abbrev pub stored : Rec → Record
+stored r = record { kind = number_of r.kind; mark = r.mark; left = record { 0 = r.left }; right = record { 0 = r.right } }
 
--- the array holds the records, and count is how many; a count above `most_formulas` says that there are too many, and nothing of the array
-pub data Recorded (rs : List Rec) (count : ℕ) (a : List ℕ) : Type 0 where
-  recorded : count ≤ most_formulas → length rs ≡ count → a ≡ padded formula_cells (concat_map cells rs) → Recorded rs count a
-  too_many : most_formulas < count → most_formulas < length rs → Recorded rs count a
+-- and that of none
+abbrev pub blank : Record
+blank = record { kind = 0; mark = 0; left = record { 0 = 0 }; right = record { 0 = 0 } }
+
+-- the table holds the records, and count is how many; a count above `most_formulas` says that there are too many, and nothing of the table
+pub record Recorded (rs : List Rec) (count : ℕ) (a : List Record) : Type 0 where
+  pub held : Tabled most_formulas blank (map stored rs) count a
 
 -- the record with this kind number and these fields; a number above 8 is no kind of the table
-abbrev pub row : ℕ → ℕ → ℕ → ℕ → Rec
-row k m l r = record { kind = kind_of k; mark = m; left = l; right = r }
+abbrev pub rec_of : Record → Rec
+rec_of x = record { kind = kind_of x.kind; mark = x.mark; left = x.left.0; right = x.right.0 }
 
 -- the struct holds the records
 abbrev pub HasRecords : List Rec → Formulas → Type 0
-HasRecords rs f = Recorded rs f.count f.cells
+HasRecords rs f = Recorded rs f.records.len f.records.entries
 
 -- the number of the record that comes after so many; where there are too many, that of a comment, which names no record
 abbrev pub IsNext : ℕ → ℕ → Type 0

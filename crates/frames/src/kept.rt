@@ -17,6 +17,7 @@ pub const KEPT_LENGTH: usize = OVER_LENGTH + RECORD_LENGTH - 1;
 
 // The count of bytes seen, with n more. It is exact up to WINDOW_LENGTH; beyond that it is the one
 // from OVER_LENGTH to KEPT_LENGTH that has the same remainder by RECORD_LENGTH, and so the same answer.
+#[tactic(auto, using(crate::proofs::Windows::window_exact, crate::proofs::Windows::window_sum))]
 fn add(seen: usize, n: usize) -> usize
     ensures { result ≡ window (seen + n) }
 {
@@ -24,6 +25,23 @@ fn add(seen: usize, n: usize) -> usize
         return seen + n;
     }
     OVER_LENGTH + (seen % RECORD_LENGTH + n % RECORD_LENGTH) % RECORD_LENGTH
+}
+
+// Reads until `buf` is full, the input ends or a read fails: how many bytes are then at the start of
+// `buf`, and whether a read failed.
+pub fn read_full<R: Read>(input: &mut R, buf: &mut [u8]) -> (usize, Result<(), RunError>)
+    ensures count { result.0 ≤ length buf.new }
+    ensures error { IfErr result.1 (λ error. error ≡ RunError.ReadFailed) }
+{
+    let mut done = 0;
+    while done < buf.len() {
+        match input.read(&mut buf[done..]) {
+            Ok(0) => break,
+            Ok(n) => done += n,
+            Err(_) => return (done, Err(RunError::ReadFailed)),
+        }
+    }
+    (done, Ok(()))
 }
 
 // What is kept of an input of any length: its bytes as far as there is room, and the count of them
@@ -37,6 +55,7 @@ pub struct Kept {
 
 impl Kept {
     // Nothing yet.
+    #[tactic(auto, using(crate::proofs::Windows::window_exact))]
     pub fn new() -> Kept
         ensures { Window [] result.bytes result.seen }
     {
@@ -47,6 +66,7 @@ impl Kept {
     }
 
     // A further part of the input, kept after the bytes seen as far as there is room.
+    #[tactic(auto, using(crate::proofs::Windows::counted_most, crate::proofs::Windows::counted_is, crate::proofs::Windows::kept_put))]
     pub fn keep(&mut self, part: &[u8])
         ensures seen { self.new.seen ≡ window (self.old.seen + length part.now) }
         ensures bytes { self.new.bytes ≡ kept_with self.old.bytes self.old.seen part.now }
@@ -59,6 +79,7 @@ impl Kept {
     }
 
     // The bytes that the answer is given for.
+    #[tactic(auto, using(crate::proofs::Windows::counted_most))]
     pub fn branch(&self) -> &[u8]
         ensures value { result.now ≡ take self.now.seen self.now.bytes }
         ensures len { length result.now ≡ self.now.seen }
@@ -67,18 +88,20 @@ impl Kept {
     }
 
     // Keeps an input in place of what was kept, read to its end. A proved loop has to end, and nothing
-    // says that the input does: the reads are counted, and after 2^64 - 1 of them, which no input
+    // says that the input does: the parts are counted, and after 2^64 - 1 of them, which no input
     // reaches, it is a read error.
+    #[tactic(auto, using(crate::proofs::Windows::window_exact))]
     pub fn read_all<R: Read>(&mut self, input: &mut R) -> Result<(), RunError>
         ensures { IfErr result (λ error. error ≡ RunError.ReadFailed) }
     {
         self.seen = 0;
         let mut part = io::large_buffer();
         for _ in 0..u64::MAX {
-            match input.read(&mut part) {
-                Ok(0) => return Ok(()),
-                Ok(n) => self.keep(&part[..n]),
-                Err(_) => return Err(RunError::ReadFailed),
+            let (n, outcome) = read_full(input, &mut part);
+            self.keep(&part[..n]);
+            outcome?;
+            if n < part.len() {
+                return Ok(());
             }
         }
         Err(RunError::ReadFailed)

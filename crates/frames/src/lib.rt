@@ -1,7 +1,7 @@
 // Eight Frames: what is kept of standard input, and the lines that are printed of it.
 #![tactic(auto)]
 
-ghost use Rattle.std.specs.Prelude.{◌≡◌, false, [], ◌∷◌, ◌++◌, ◌+◌, ◌≤◌, ◌<◌, ℕ, Err, IfErr, length};
+ghost use Rattle.std.specs.Prelude.{◌≡◌, false, [], ◌∷◌, ◌++◌, ◌+◌, ◌≤◌, ◌<◌, ℕ, Ok, Err, IfErr, length};
 ghost use Rattle.arrayvec.specs.ArrayVec.{array_vec_len};
 ghost use Rattle.definition.specs.Trays.{zero_trays};
 ghost use Rattle.definition.specs.Call as Call;
@@ -18,7 +18,7 @@ mod kept;
 use arrayvec::ArrayVec;
 pub use error::{RunError, Taken};
 use itoa::Buffer;
-pub use kept::{KEPT_LENGTH, Kept};
+pub use kept::{KEPT_LENGTH, Kept, read_full};
 use limits::{EDGE_TRAY_LENGTH, FORMULA_TRAY_LENGTH, NODE_TRAY_LENGTH};
 use prover::{Verdict, prove};
 use refusal::Refusal;
@@ -98,6 +98,7 @@ fn append_verdict(text: &mut Line, verdict: Verdict)
 }
 
 // The line of an answer to these flags.
+#[tactic(auto, unfolding(crate::specs::Line::line_of, prover::specs::Said::said, slices::specs::Text::line_of_words))]
 pub fn line(flags: u8, answer: Result<Verdict, Refusal>) -> Line
     ensures { result.items ≡ line_of flags (said answer) }
 {
@@ -111,6 +112,7 @@ pub fn line(flags: u8, answer: Result<Verdict, Refusal>) -> Line
 }
 
 // The call with these flags and empty trays.
+#[tactic(auto, using(crate::proofs::Answering::answer_lengths), unfolding(definition::specs::Trays::zero_trays))]
 fn call(branch: &[u8], flags: u8) -> Result<Verdict, Refusal>
     ensures { said result ≡ answer branch.now flags zero_trays }
 {
@@ -121,6 +123,7 @@ fn call(branch: &[u8], flags: u8) -> Result<Verdict, Refusal>
 }
 
 // The lines of the answers to the flags 0 to 7.
+#[tactic(auto, using(crate::proofs::Frames::lines_next, crate::proofs::Frames::lines_length), unfolding(crate::specs::Lines::lines_below))]
 fn lines_by<F: Fn(u8) -> Result<Verdict, Refusal>>(answer_to: F) -> Lines
     requires { F.IsAlwaysCallable answer_to }
     ensures { (answers : ℕ → Call.Answer) → ((flags : ℕ) (r : _) → flags < 8 → F.post answer_to flags r → said r ≡ answers flags) → result.items ≡ lines_below 8 answers }
@@ -154,25 +157,14 @@ pub fn print<W: Write>(output: &mut W, text: &[u8]) -> Result<(), RunError>
     output.write_all(text).or(Err(RunError::WriteFailed))
 }
 
-// Writes why a run failed; an error is let go, since there is nowhere left to report it.
-pub fn report<E: Write>(errors: &mut E, outcome: &Result<(), RunError>) {
-    if let Err(error) = outcome {
-        let _ = writeln!(errors, "{error}");
-    }
-}
-
-// Reads the input and prints its eight lines.
-fn answer_input<R: Read, W: Write>(
-    input: &mut R,
-    output: &mut W,
-    kept: &mut Kept,
-    text: &mut Lines,
-) -> Result<(), RunError>
-    ensures { Runs kept.new.bytes kept.new.seen text.new.items result }
+// Hands an outcome on, and writes why a run failed; an error of that is let go, since there is nowhere
+// left to report it.
+pub fn report<E: Write>(errors: &mut E, outcome: Result<(), RunError>) -> Result<(), RunError>
+    ensures { result ≡ outcome }
 {
-    kept.read_all(input)?;
-    *text = lines(kept.branch());
-    print(output, text)
+    outcome.inspect_err(|error| {
+        let _ = writeln!(errors, "{error}");
+    })
 }
 
 // How many words the program was started with, its own name among them: 1, or 2 for all that are more.
@@ -184,6 +176,37 @@ pub fn word_count<E: Env>(env: &E) -> usize
         Err(FillError::NotPresent) => 1,
         _ => 2,
     }
+}
+
+// An error if the program was started with more words than its own name.
+pub fn refuse_argument(words: usize, taken: Taken) -> Result<(), RunError>
+    ensures given { 1 < words → result ≡ Err (RunError.ArgumentGiven taken) }
+    ensures none { words ≤ 1 → result ≡ Ok tt }
+{
+    if 1 < words {
+        return Err(RunError::ArgumentGiven(taken));
+    }
+    Ok(())
+}
+
+// Reads the input and prints its eight lines.
+#[tactic(auto, using(crate::proofs::Frames::runs_printed))]
+fn answer_input<R: Read, W: Write>(
+    words: usize,
+    input: &mut R,
+    output: &mut W,
+    kept: &mut Kept,
+    text: &mut Lines,
+) -> Result<(), RunError>
+    ensures value { 1 < words → result ≡ Err (RunError.ArgumentGiven Taken.Records) }
+    ensures kept_unchanged { 1 < words → kept.new ≡ kept.old }
+    ensures text_unchanged { 1 < words → text.new ≡ text.old }
+    ensures runs { words ≤ 1 → Runs kept.new.bytes kept.new.seen text.new.items result }
+{
+    refuse_argument(words, Taken::Records)?;
+    kept.read_all(input)?;
+    *text = lines(kept.branch());
+    print(output, text)
 }
 
 // The program, started with so many words, its own name among them: `input`, `output` and `errors`
@@ -202,11 +225,6 @@ pub fn run<R: Read, W: Write, E: Write>(
     ensures text_unchanged { 1 < words → text.new ≡ text.old }
     ensures runs { words ≤ 1 → Runs kept.new.bytes kept.new.seen text.new.items result }
 {
-    let outcome = if 1 < words {
-        Err(RunError::ArgumentGiven(Taken::Records))
-    } else {
-        answer_input(input, output, kept, text)
-    };
-    report(errors, &outcome);
-    outcome
+    let outcome = answer_input(words, input, output, kept, text);
+    report(errors, outcome)
 }

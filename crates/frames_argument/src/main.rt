@@ -1,6 +1,7 @@
 // Eight Frames with an argument: nothing is printed on standard output, whatever standard input has.
 #![tactic(auto)]
 
+// A program for this input alone, with the main of eight_frames: the gate runs a program with one input.
 fn main(rt: HostRuntime) {
     let mut kept = frames::Kept::new();
     let mut text = frames::Lines::new();

@@ -11,14 +11,10 @@ const BRANCH_LENGTH: usize = RECORD_LENGTH * 256;
 
 type Branch = ArrayVec<u8, BRANCH_LENGTH>;
 
-fn write<P: Print>(rt: &P, text: &[u8]) {
-    let _ = rt.write_all(text);
-}
-
 // The title and the eight lines.
-fn show<P: Print>(rt: &P, title: &[u8], branch: &[u8]) {
-    write(rt, title);
-    write(rt, &frames::lines(branch));
+fn show<P: Print>(rt: &P, title: &str, branch: &[u8]) {
+    let _ = rt.println(title);
+    let _ = rt.write_all(&frames::lines(branch));
 }
 
 // One record more.
@@ -49,18 +45,21 @@ fn ors(count: u16) -> Branch {
     branch
 }
 
-// After an atom a chain, so many records in all, each linked to the one before it twice or once.
-fn chain(count: u16, kind: u8, both: bool) -> Branch {
+// After an atom a chain, so many records in all, each linked to the one before it; its second field
+// is what is made of that link.
+fn chain<F: Fn(u16) -> u16>(count: u16, kind: u8, second: F) -> Branch
+    requires { F.IsAlwaysCallable second }
+{
     let mut branch = Branch::new();
     push(&mut branch, 0, 0, 0, 0);
     for n in 1..count {
-        push(&mut branch, kind, 0, n - 1, if both { n - 1 } else { 0 });
+        push(&mut branch, kind, 0, n - 1, second(n - 1));
     }
     branch
 }
 
 // An input of so many zero bytes, read in parts of 4,096 and less.
-fn show_long<P: Print>(rt: &P, title: &[u8], count: usize) {
+fn show_long<P: Print>(rt: &P, title: &str, count: usize) {
     let part = io::buffer();
     let mut kept = Kept::new();
     for _ in 0..count / 4096 {
@@ -71,67 +70,67 @@ fn show_long<P: Print>(rt: &P, title: &[u8], count: usize) {
 }
 
 fn show_lengths<P: Print>(rt: &P) {
-    show(rt, b"blank\n", b"");
-    show(rt, b"torn: 7 bytes\n", &[0; 7]);
-    show_long(rt, b"torn: 1,537 bytes\n", 1537);
-    show_long(rt, b"torn before overlong: 1,000,001 bytes\n", 1000001);
-    show_long(rt, b"overlong: 1,542 bytes\n", 1542);
-    show_long(rt, b"overlong: 1,000,002 bytes\n", 1000002);
+    show(rt, "blank", b"");
+    show(rt, "torn: 7 bytes", &[0; 7]);
+    show_long(rt, "torn: 1,537 bytes", 1537);
+    show_long(rt, "torn before overlong: 1,000,001 bytes", 1000001);
+    show_long(rt, "overlong: 1,542 bytes", 1542);
+    show_long(rt, "overlong: 1,000,002 bytes", 1000002);
 }
 
 // One record after a marked atom, which is refused.
-fn show_second<P: Print>(rt: &P, title: &[u8], kind: u8, mark: u8, left: u16, right: u16) {
+fn show_second<P: Print>(rt: &P, title: &str, kind: u8, mark: u8, left: u16, right: u16) {
     let mut branch = atoms(1);
     push(&mut branch, kind, mark, left, right);
     show(rt, title, &branch);
 }
 
 fn show_fields<P: Print>(rt: &P) {
-    show_second(rt, b"unknown stain\n", 9, 1, 0, 0);
-    show_second(rt, b"stray mark: 2\n", 1, 2, 0, 0);
-    show_second(rt, b"stray mark: a field\n", 8, 1, 0, 3);
-    show_second(rt, b"forward link: itself\n", 1, 1, 1, 0);
-    show_second(rt, b"forward link: later\n", 3, 1, 0, 2);
+    show_second(rt, "unknown stain", 9, 1, 0, 0);
+    show_second(rt, "stray mark: 2", 1, 2, 0, 0);
+    show_second(rt, "stray mark: a field", 8, 1, 0, 3);
+    show_second(rt, "forward link: itself", 1, 1, 1, 0);
+    show_second(rt, "forward link: later", 3, 1, 0, 2);
 }
 
 fn show_marks<P: Print>(rt: &P) {
-    show(rt, b"oversize\n", &chain(13, 2, true));
-    show(rt, b"unmarked\n", &chain(1, 2, true));
-    show(rt, b"crowded\n", &atoms(65));
-    show(rt, b"64 marked\n", &atoms(64));
-    show(rt, b"crowded: 256 records\n", &atoms(256));
+    show(rt, "oversize", &chain(13, 2, |link| link));
+    show(rt, "unmarked", &chain(1, 2, |link| link));
+    show(rt, "crowded", &atoms(65));
+    show(rt, "64 marked", &atoms(64));
+    show(rt, "crowded: 256 records", &atoms(256));
 }
 
 fn show_ors<P: Print>(rt: &P) {
-    show(rt, b"full: eight Ors\n", &ors(8));
-    show(rt, b"seven Ors\n", &ors(7));
+    show(rt, "full: eight Ors", &ors(8));
+    show(rt, "seven Ors", &ors(7));
 }
 
 fn show_late<P: Print>(rt: &P) {
-    let mut branch = chain(2, 7, false);
+    let mut branch = chain(2, 7, |_| 0);
     push(&mut branch, 8, 1, 1, 0);
     push(&mut branch, 7, 1, 0, 0);
-    show(rt, b"late: Necessary Possible p, Possible p\n", &branch);
+    show(rt, "late: Necessary Possible p, Possible p", &branch);
 }
 
 fn show_proved_at_limit<P: Print>(rt: &P) {
-    let mut branch = chain(24, 7, false);
+    let mut branch = chain(24, 7, |_| 0);
     push(&mut branch, 7, 1, 23, 0);
     push(&mut branch, 1, 1, 1, 0);
     show(
         rt,
-        b"proved at the limit: 24 Possibles of p, Non Possible p\n",
+        "proved at the limit: 24 Possibles of p, Non Possible p",
         &branch,
     );
 }
 
 // What Eight Frames never asks: flags above 15, and trays that are too short.
-fn show_call<P: Print>(rt: &P, title: &[u8], flags: u8, nodes: &mut [u8]) {
+fn show_call<P: Print>(rt: &P, title: &str, flags: u8, nodes: &mut [u8]) {
     let mut formulas = [0u8; FORMULA_TRAY_LENGTH];
     let mut edges = [0u32; EDGE_TRAY_LENGTH];
     let answer = prove(&atoms(1), flags, nodes, &mut formulas, &mut edges);
-    write(rt, title);
-    write(rt, &frames::line(flags, answer));
+    let _ = rt.println(title);
+    let _ = rt.write_all(&frames::line(flags, answer));
 }
 
 fn main(rt: HostRuntime) {
@@ -141,7 +140,7 @@ fn main(rt: HostRuntime) {
     show_ors(&rt);
     show_late(&rt);
     show_proved_at_limit(&rt);
-    show_call(&rt, b"bad tick\n", 16, &mut [0; NODE_TRAY_LENGTH]);
-    show_call(&rt, b"short tray\n", 0, &mut [0; NODE_TRAY_LENGTH - 1]);
-    show_call(&rt, b"skipping\n", 8, &mut [0; NODE_TRAY_LENGTH]);
+    show_call(&rt, "bad tick", 16, &mut [0; NODE_TRAY_LENGTH]);
+    show_call(&rt, "short tray", 0, &mut [0; NODE_TRAY_LENGTH - 1]);
+    show_call(&rt, "skipping", 8, &mut [0; NODE_TRAY_LENGTH]);
 }

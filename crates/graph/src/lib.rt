@@ -20,6 +20,7 @@ impl PossibleWorld {
     pub const ZERO: PossibleWorld = PossibleWorld(0);
 
     // No world: what a node that is not there has; also the last index, which no graph has room for.
+    // A number and no Option: it is the definition's, and an Option would double an entry's field.
     pub const NONE: PossibleWorld = PossibleWorld(65535);
 
     // The next world. The last index stays.
@@ -48,6 +49,7 @@ impl Graph {
     ghost use Rattle.graph.specs.Drawn.{grid, with_vertex, HasGraph};
 
     // No world.
+    #[tactic(auto, using(crate::proofs::Drawn::drawn_none))]
     pub fn new() -> Self
         ensures { HasGraph empty_graph result }
     {
@@ -58,6 +60,7 @@ impl Graph {
     }
 
     // Whether u reaches v.
+    #[tactic(auto, using(crate::proofs::Drawn::drawn_cell))]
     pub fn contains(&self, u: PossibleWorld, v: PossibleWorld) -> bool
         ensures { (g : D.Graph) → HasGraph g self.now → result ≡ edge g u.0 v.0 }
     {
@@ -73,6 +76,7 @@ impl Graph {
     }
 
     // One edge more, where both worlds have a place.
+    #[tactic(auto, using(crate::proofs::Grid::grid_set, crate::proofs::Grid::grid_out))]
     fn add_vertex(&mut self, vertex: GraphVertex)
         ensures { ((e : ℕ → ℕ → Bool) → self.old.edges ≡ grid e → self.new.edges ≡ grid (with_vertex e vertex.from.0 vertex.to.0)) × (self.new.worlds ≡ self.old.worlds) }
     {
@@ -103,6 +107,7 @@ impl Graph {
     }
 
     // Puts world 0 in an empty graph.
+    #[tactic(auto, using(crate::proofs::Forks::init_kept))]
     pub fn initialize_graph_if_needed(&mut self, setting: Setting)
         ensures { (g : D.Graph) → HasGraph g self.old → HasGraph (initialize_graph_if_needed (asked setting) g) self.new }
     {

@@ -54,6 +54,7 @@ impl Graph {
     }
 
     // Whether one edge leads to v, and an unequal one from v on.
+    #[tactic(auto, unfolding(definition::specs::Graph::paired))]
     fn is_paired(&self, vertex: GraphVertex, v: PossibleWorld) -> bool
         ensures { (g : D.Graph) → HasGraph g self.now → result ≡ paired g vertex.from.0 vertex.to.0 v.0 }
     {

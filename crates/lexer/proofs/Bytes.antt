@@ -4,8 +4,8 @@ use mathlib.Core.Bool.{Bool, true, false, cond, ◌&&◌}
 use mathlib.Core.List.{List, [], ◌∷◌}
 use Prim.Native.Nat.{ℕ, suc, ◌+◌, ◌*◌, ◌-◌, ◌≤◌, ◌<◌}
 use native.Mathlib.Omega.{arith}
-use native.Mathlib.Numerals.{add-one, one-add}
-use lib.Dec.{eqb, leb}
+use native.Mathlib.Numerals.{add-one}
+use lib.Dec.{leb}
 use lib.ListN.{length, get_or, take, drop, length-append, length-drop, drop_of_length-le, get_or-eq_default}
 use lib.Seq.{drop-cons, drop-drop, take_all}
 use borrow.Author.Tests.{eqb-true, eqb-false, ne_eqb, leb-true, leb-false}
@@ -19,19 +19,12 @@ use Rattle.std.specs.Prelude.{nat_eq, take_while}
 use native.Mathlib.Nat.{add-zero}
 use Rattle.std.specs.List.{prefix_len}
 use Rattle.std.proofs.lemmas.List.Folds.{length-prefix_len}
+use Rattle.std.proofs.lemmas.List.Sums.{prefix_len-le-length, take_while-cons}
 use Rattle.lexer.specs.Bytes.{name_by_digits, Shown, no_more, token, not_spelled, Shows, SpelledAs, Begins}
 use Rattle.lexer.specs.declared.Word.{Word}
 use Rattle.lexer.specs.declared.Spelling.{Spelling}
 
 -- the digits
-digits_are : (bs : List ℕ) → take (length (digits_of bs)) bs ≡ digits_of bs
-digits_are [] = refl
-digits_are (b ∷ bs) = go (is_digit b) (digits_are bs)
-  where
-    go : (x : Bool) → take (length (digits_of bs)) bs ≡ digits_of bs → take (length (cond x (b ∷ digits_of bs) [])) (b ∷ bs) ≡ cond x (b ∷ digits_of bs) []
-    go true e = ap (λ (v : List ℕ). b ∷ v) e
-    go false e = refl
-
 all_digits : (bs : List ℕ) → Digits (digits_of bs)
 all_digits [] = tt
 all_digits (b ∷ bs) = go (is_digit b) refl (all_digits bs)
@@ -67,26 +60,17 @@ shows_lost text at end e h n =
 -- the digits make the name, or none
 digits_while : (bs : List ℕ) → take_while is_digit bs ≡ digits_of bs
 digits_while [] = refl
-digits_while (b ∷ bs) = go (is_digit b) (digits_while bs)
-  where
-    go : (x : Bool) → take_while is_digit bs ≡ digits_of bs → take (cond x (1 + prefix_len is_digit bs) 0) (b ∷ bs) ≡ cond x (b ∷ digits_of bs) []
-    go true e = rw one-add (ap (λ (v : List ℕ). b ∷ v) e)
-    go false e = refl
-
-few_digits : (bs : List ℕ) → length (digits_of bs) ≤ length bs
-few_digits [] = omega arith
-few_digits (b ∷ bs) = go (is_digit b) (few_digits bs)
-  where
-    go : (x : Bool) → length (digits_of bs) ≤ length bs → length (cond x (b ∷ digits_of bs) []) ≤ suc (length bs)
-    go true h = omega arith
-    go false h = omega arith
+digits_while (b ∷ bs) = take_while-cons is_digit b bs ∙ ap (λ (v : List ℕ). cond (is_digit b) (b ∷ v) []) (digits_while bs)
 
 module _ (bs : List ℕ) (n : ℕ) (e : n ≡ length (take_while is_digit bs)) where
   counted : n ≡ length (digits_of bs)
   counted = e ∙ ap length (digits_while bs)
 
   taken : take n bs ≡ digits_of bs
-  taken = ap (λ (i : ℕ). take i bs) counted ∙ digits_are bs
+  taken = ap (λ (i : ℕ). take i bs) (e ∙ length-prefix_len is_digit bs) ∙ digits_while bs
+
+  few : n ≤ length bs
+  few = omega (arith, e, length-prefix_len is_digit bs, prefix_len-le-length is_digit bs)
 
   pub taken_digits : Digits (take n bs)
   taken_digits = subst Digits (sym taken) (all_digits bs)
@@ -96,8 +80,8 @@ module _ (bs : List ℕ) (n : ℕ) (e : n ≡ length (take_while is_digit bs)) w
   named w q = subst (λ (v : Word). SpelledAs (name_by (digits_of bs)) (1 + length bs) (record { word = v; size = 1 + n })) (sym (q ∙ ap name_by_digits taken)) (go (well_begun (digits_of bs) && leb (value (digits_of bs)) largest_atom))
     where
       go : (x : Bool) → SpelledAs (cond x (found (name (value (digits_of bs))) (suc (length (digits_of bs)))) lost) (1 + length bs) (record { word = cond x (Word.Name (value (digits_of bs))) Word.Invalid; size = 1 + n })
-      go true = (refl, omega (arith, counted), omega (arith, counted, few_digits bs))
-      go false = (refl, omega (arith, counted, few_digits bs))
+      go true = (refl, omega (arith, counted), omega (arith, few))
+      go false = (refl, omega (arith, few))
 
 -- the number of the digits up to one of them
 pub record More (ds : List ℕ) (i n : ℕ) : Type 0 where

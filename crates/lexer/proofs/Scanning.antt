@@ -1,6 +1,7 @@
 -- The scan's loop: the tokens so far are those of the text up to a place, and the automaton takes them.
 use Rattle.std.proofs.Common.{◌≡◌, refl, sym, ap, ◌∙◌, List, [], ◌∷◌, ◌++◌, map, append_assoc, append-nil, ℕ, zero, suc, ◌+◌, ◌≤◌, ◌<◌, length, set, replicate, Err, arith}
 use lib.ListN.{length-append}
+use Rattle.std.proofs.lemmas.List.{map-append}
 use lib.Seq.{set_at, get_or-append_seam}
 use Rattle.std.proofs.Math.Option.{Option, none, some}
 use Rattle.definition.specs.Limits.{most_text}
@@ -22,10 +23,6 @@ use Rattle.lexer.proofs.Stepping.{token_word, deeper}
 
 abbrev pub words_of : List Token → List Word
 words_of = map word_of
-
-words_append : (ts : List Token) (t : Token) → words_of (ts ++ (t ∷ [])) ≡ words_of ts ++ (word_of t ∷ [])
-words_append [] t = refl
-words_append (u ∷ ts) t = ap (λ (v : List Word). word_of u ∷ v) (words_append ts t)
 
 before_word : (t : Token) (us : List Token) → before (word_of t) us ≡ t ∷ us
 before_word (name a) us = refl
@@ -167,7 +164,7 @@ module _ {text : List ℕ} {begun words : List Word} {at count : ℕ} {awaited :
       more = tokens_append z.past (x ∷ [])
 
       worded : words_of (tokens_of (z.past ++ (x ∷ []))) ≡ words_of ts ++ (word_of t ∷ [])
-      worded = ap words_of more ∙ words_append ts t
+      worded = ap words_of more ∙ map-append word_of ts (t ∷ [])
 
       go : (m : ℕ) → z.room ≡ m → Sofar text begun (set words count w) end (count + 1) later
       go zero g = absurd (omega (arith, z.filled, z.few, k.moves, k.inside))

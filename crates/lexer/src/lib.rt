@@ -4,7 +4,7 @@
 ghost use Rattle.std.specs.Prelude.{◌≡◌, ◌+◌, ◌*◌, ◌-◌, ◌<◌, ◌≤◌, ◌==◌, length, get_or, take_while};
 ghost use Rattle.definition.specs.Limits.{most_text};
 ghost use Rattle.grammar.specs.Lexing.{is_digit, Digits, value};
-ghost use Rattle.grammar.specs.Scan.{digits_of, first_hit, table, name_by, lexed};
+ghost use Rattle.grammar.specs.Scan.{digits_of, first_hit, table, name_by};
 ghost use Rattle.grammar.specs.Automaton.{step, begins, goes_on};
 ghost use Rattle.lexer.specs.Words.{sign_kind, joint_kind, token_of, Stands};
 ghost use Rattle.lexer.specs.Bytes.{Atomic, name_by_digits, SpelledAs, Begins, Shows};
@@ -23,6 +23,7 @@ pub enum Sign {
 
 impl Sign {
     // The number of the kind.
+    #[tactic(auto, unfolding(definition::specs::Records::number_of))]
     pub fn kind(self) -> u8
         ensures { result ≡ sign_kind self }
     {
@@ -42,6 +43,7 @@ pub enum Joint {
 
 impl Joint {
     // The number of the kind.
+    #[tactic(auto, unfolding(definition::specs::Records::number_of))]
     pub fn kind(self) -> u8
         ensures { result ≡ joint_kind self }
     {
@@ -96,6 +98,7 @@ enum Awaited {
 }
 
 // The token at a place; beyond the last, the end.
+#[tactic(auto, using(crate::proofs::Reading::stands))]
 pub fn word_at(words: &Words, at: usize) -> Word
     ensures { Stands words.now at result }
 {
@@ -120,6 +123,7 @@ fn digit_count(bytes: &[u8]) -> usize
 }
 
 // The number of some digits, if an atom has it.
+#[tactic(auto, using(crate::proofs::Bytes::all_counted))]
 fn number(digits: &[u8]) -> Option<u16>
     requires { Digits digits.now }
     ensures { Atomic (value digits.now) result }
@@ -148,6 +152,7 @@ fn name_of(digits: &[u8]) -> Word
 }
 
 // The name whose a stands before the bytes.
+#[tactic(auto, using(crate::proofs::Bytes::taken_digits, crate::proofs::Bytes::named))]
 fn name(bytes: &[u8]) -> Spelling
     ensures { SpelledAs (name_by (digits_of bytes.now)) (1 + length bytes.now) result }
 {
@@ -181,6 +186,7 @@ fn fixed(bytes: &[u8]) -> Spelling
 }
 
 // The token that begins the bytes, where no space stands; the end where there are none.
+#[tactic(auto, using(crate::proofs::Bytes::begins_name, crate::proofs::Bytes::begins_fixed))]
 fn first_token(bytes: &[u8]) -> Spelling
     ensures { Begins bytes.now result }
 {
@@ -256,6 +262,7 @@ fn unreadable(at: usize) -> ScanError
 }
 
 // The tokens of a text; or where it can't go on.
+#[tactic(auto, using(crate::proofs::Scanning::start, crate::proofs::Scanning::next))]
 fn scan_words(text: &[u8], words: &mut Words) -> Result<(), ScanError>
     requires { length text.now ≤ most_text }
     ensures { ScannedAs text.now words.old words.new result }

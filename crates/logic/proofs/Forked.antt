@@ -8,8 +8,8 @@ use native.Mathlib.Omega.{arith}
 use lib.ListN.{length, length-append}
 use Rattle.definition.specs.Limits.{most_identifiers, graph_width}
 use Rattle.arrays.specs.Listed.{HasList}
-use Rattle.arrays.specs.declared.Numbers.{Numbers}
-use Rattle.arrays.proofs.Listed.{listed_fits}
+use Rattle.arrays.specs.Listed.{Numbers}
+use Rattle.arrays.proofs.Tabled.{tabled_fits}
 use Rattle.definition.specs.Lists.{Each}
 use Rattle.definition.specs.Setting.{Setting}
 use Rattle.definition.specs.Records.{Rec, nobody}
@@ -27,7 +27,7 @@ use Rattle.definition.proofs.Run.TreeKept.{rule_steady}
 use Rattle.definition.proofs.Tree.Nodes.{ext_subtree, ext_result}
 use Rattle.graph.specs.Drawn.{HasGraph}
 use Rattle.graph.specs.declared.Graph as Rust
-use Rattle.tree.specs.Lay.{Held, Laid, HasNodes, held}
+use Rattle.tree.specs.Lay.{Laid, HasNodes, held}
 use Rattle.tree.specs.declared.ProofTree.{ProofTree}
 use Rattle.tree.specs.Chain.{chain_of, falling_chain, empty_chain}
 use Rattle.tree.specs.Sequence.{id_at}
@@ -41,6 +41,7 @@ use Rattle.subtree.specs.Items.{HasItems, Listing}
 use Rattle.subtree.proofs.Placing.{left_as}
 use Rattle.necessities.specs.Stack.{HasStack}
 use Rattle.modality.specs.Seen.{Seen}
+use Rattle.modality.specs.declared.PathWorlds.{PathWorlds}
 use Rattle.logic.specs.declared.Tableau.{Tableau}
 use Rattle.logic.specs.Gave.{Gave}
 use Rattle.logic.specs.Applied.{Before, After}
@@ -51,9 +52,6 @@ pub commented : (s : ProofSubtree) (start : ℕ) → s.left ≡ empty_chain → 
     → (subtree_of s ≡ with_middle (suc start ∷ start ∷ [])) × ((m : ℕ) → start + 2 ≤ m → Within s m)
 unfolding subtree_of chain_of
 commented s start l m r = rw (l, m, r) (refl, λ n h. record { on_left = omega arith; on_middle = h; on_right = omega arith })
-
-pub two_nodes : (ns : List Node) (a b : Node) {len : ℕ} {cells : List ℕ} → Held ((ns ++ (a ∷ [])) ++ (b ∷ [])) len cells → Held (ns ++ (a ∷ b ∷ [])) len cells
-two_nodes ns a b h = held_as (ns ++ (a ∷ b ∷ [])) (append_assoc ns (a ∷ []) (b ∷ [])) h
 
 -- what placing the subtrees of a list says
 abbrev pub Places : Items → ProofTree → Numbers → ProofTree → Numbers → Type 0
@@ -143,7 +141,7 @@ module _ (F : Setting) (s : State) (x : ℕ) (recs : List Rec) (f : ℕ) (q : Li
   pub forked_held : {v : ℕ} {u : ProofTree} → v ≡ forked_world g₀ → HasNodes (s.nodes ++ (new_node x f v ∷ new_node x nobody 0 ∷ [])) u → HasNodes (s.nodes ++ both) u
   forked_held e h = held_as (s.nodes ++ both) (ap (λ (w : ℕ). s.nodes ++ (new_node x f w ∷ new_node x nobody 0 ∷ [])) e) h
 
-  pub forked_seen : {v : ℕ} (a : List ℕ) → v ≡ forked_world g₀ → Each (Seen s.nodes (some (record { node = x; world = v })) a) (leaves s.nodes) → Each (Seen s.nodes (some forking) a) (leaves s.nodes)
+  pub forked_seen : {v : ℕ} (a : PathWorlds) → v ≡ forked_world g₀ → Each (Seen s.nodes (some (record { node = x; world = v })) a) (leaves s.nodes) → Each (Seen s.nodes (some forking) a) (leaves s.nodes)
   forked_seen a e h = subst (λ (w : ℕ). Each (Seen s.nodes (some (record { node = x; world = w })) a) (leaves s.nodes)) e h
 
 pub listing_start : {x : Items} → ((m : ℕ) → HasItems [] x m) → (len : ℕ) → Listing [] [] x len
@@ -154,7 +152,7 @@ module _ (t : List Node) (r : Treed t) {base : ℕ} (count : length t ≡ base) 
   pub all_leaves : {w : Numbers} → HasList ([] ++ leaves_below base t 0) w → HasList (leaves t) w × (w.len ≤ most_identifiers)
   all_leaves l =
       let k = listed_as (leaves t) (leaves_as t base count) l in
-      (k, listed_fits k (omega (arith, leaves_few t r, count, fits)))
+      (k, tabled_fits k (omega (arith, leaves_few t r, count, fits)))
 
   pub leaves_low : Each (λ y. y < most_identifiers) (leaves t)
   leaves_low = each_map (λ y (h : y < length t). omega (arith, h, count, fits)) (leaves t) (leaves_within t r)

@@ -8,8 +8,10 @@ use lib.ListN.{length, get_or, drop, length-append, length-map, drop_of_length-l
 use lib.Seq.{drop-cons}
 use Rattle.definition.specs.Limits.{most_identifiers}
 use Rattle.arrays.specs.Listed.{Listed}
-use Rattle.arrays.proofs.Listed.{listed_count}
+use Rattle.arrays.proofs.Tabled.{tabled_count}
 use Rattle.bits.specs.Bits.{bit_of}
+use Rattle.bits.specs.Worlds.{no_world}
+use Rattle.bits.specs.declared.WorldSet.{WorldSet}
 use Rattle.definition.specs.Lists.{Each, filter}
 use Rattle.definition.specs.Tree.{Node, new_node, path}
 use Rattle.definition.specs.Subtree.{Targeted}
@@ -21,6 +23,7 @@ use Rattle.definition.proofs.Basics.Lists.{each_get}
 use Rattle.subtree.specs.Items.{Item, HasItems, Listing}
 use Rattle.subtree.specs.declared.Items.{Items}
 use Rattle.modality.specs.Seen.{Seen}
+use Rattle.modality.specs.declared.PathWorlds.{PathWorlds}
 use Rattle.logic.specs.Gave.{Gave}
 use Rattle.logic.proofs.Listings.{item, listing_as, listing_both, listing_self, listing_skip}
 
@@ -42,10 +45,6 @@ module _ (t : List Node) (fk : Option Fork) (n : Necessity) (ws : List ℕ) wher
     pub nodes : (t ++ more) ++ (left more rest).nodes ≡ goal
     pub subtrees : done ++ (left more rest).subtrees ≡ items
     pub rows : u.len ≤ most_identifiers → Listing rs done x u.len
-
-  pub giving_start : (more : List Node) (ls : List ℕ) (rs : List Item) {u : ProofTree} {x : Items} → HasNodes (t ++ more) u → (u.len ≤ most_identifiers → Listing rs [] x u.len) →
-      Giving ls ((t ++ more) ++ (left more ls).nodes) rs (left more ls).subtrees u x
-  giving_start more ls rs h l = record { more = more; done = []; held = h; nodes = refl; subtrees = refl; rows = l }
 
   module _ {goal : List Node} {rs : List Item} {items : List Targeted} {u : ProofTree} {x : Items} where
     pub giving_next : (leaf : ℕ) (rest : List ℕ) (g : Giving (leaf ∷ rest) goal rs items u x) {u' : ProofTree} {x' : Items} →
@@ -108,13 +107,13 @@ module _ (t : List Node) (fk : Option Fork) (n : Necessity) (ws : List ℕ) wher
     unfolding giving_turn
     giving_entry ls {j} {k} {leaf} lk small up e p q g h push =
         let o : suc j ≡ j + 1 = omega arith in
-        let d = drop-cons ls j 0 (omega (arith, up, listed_count lk small)) ∙ ap₂ (λ (v w : ℕ). v ∷ drop w ls) (sym e) o in
+        let d = drop-cons ls j 0 (omega (arith, up, tabled_count lk small)) ∙ ap₂ (λ (v w : ℕ). v ∷ drop w ls) (sym e) o in
         giving_next leaf (drop (j + 1) ls) (giving_turn (leaf ∷ drop (j + 1) ls) d g)
         (held_as ((t ++ g.more) ++ made leaf) (sym (ap₂ (λ (y z : ℕ). (t ++ g.more) ++ map (new_node y z) (here leaf)) p q)) (h g.held)) push
 
     pub giving_ends : (ls : List ℕ) {j k : ℕ} {l : List ℕ} → Listed ls k l → k ≤ most_identifiers → k ≤ j → (g : Giving (drop j ls) goal rs items u x) → HasNodes goal u × (u.len ≤ most_identifiers → Listing rs items x u.len)
     giving_ends ls {j} lk small past g =
-        let b : length ls ≤ j = omega (arith, past, listed_count lk small) in
+        let b : length ls ≤ j = omega (arith, past, tabled_count lk small) in
         giving_end (giving_turn [] (drop_of_length-le ls b) g)
 
 -- no world, nothing is given
@@ -137,8 +136,8 @@ module _ (t : List Node) (fk : Option Fork) (n : Necessity) where
       record { nodes = held_as (ms ++ (give_on t fk n [] next ls).nodes) (sym (append-nil ms) ∙ ap (λ (v : List Node). ms ++ v) (sym (nothing_made ls next))) h; rows = λ small. nothing_listed ls next (l small) }
 
 -- the worlds that occur on the path of entry j
-pub seen_entry : (t : List Node) (fk : Option Fork) (ls a : List ℕ) (j leaf word : ℕ) → Each (Seen t fk a) ls → j < length ls → leaf ≡ get_or ls j 0 → (leaf < most_identifiers → word ≡ get_or a leaf 0) →
-    (v : ℕ) → v < 32 → bit_of word v ≡ occurs t fk (path t leaf) v
-seen_entry t fk ls a j leaf word seen low e has v h =
+pub seen_entry : (t : List Node) (fk : Option Fork) (ls : List ℕ) (a : PathWorlds) (j leaf : ℕ) (w : WorldSet) → Each (Seen t fk a) ls → j < length ls → leaf ≡ get_or ls j 0 → (leaf < most_identifiers → w ≡ get_or a.sets leaf no_world) →
+    (v : ℕ) → v < 32 → bit_of w.0 v ≡ occurs t fk (path t leaf) v
+seen_entry t fk ls a j leaf w seen low e has v h =
     let s = subst (Seen t fk a) (sym e) (each_get (Seen t fk a) ls 0 seen j (λ past. absurd (omega (arith, past, low)))) in
-    ap (λ (w : ℕ). bit_of w v) (has s.low) ∙ s.same v h
+    ap (λ (x : WorldSet). bit_of x.0 v) (has s.low) ∙ s.same v h

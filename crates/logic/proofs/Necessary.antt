@@ -7,9 +7,8 @@ use mathlib.Core.Option.{none}
 use native.Mathlib.Omega.{arith}
 use lib.ListN.{length}
 use Rattle.definition.specs.Limits.{most_identifiers}
-use Rattle.arrays.specs.Listed.{Listed, HasList}
-use Rattle.arrays.specs.declared.Numbers.{Numbers}
-use Rattle.arrays.proofs.Listed.{listed_fits}
+use Rattle.arrays.specs.Listed.{Numbers, Listed, HasList}
+use Rattle.arrays.proofs.Tabled.{tabled_fits}
 use Rattle.definition.specs.Lists.{Each, elem, filter}
 use Rattle.definition.specs.Setting.{Setting}
 use Rattle.definition.specs.Records.{Rec}
@@ -51,7 +50,7 @@ module _ (s : State) (x f : ℕ) where
 
   pub through_fits : Treed s.nodes → length s.nodes ≤ most_identifiers → {m : ℕ} {a : List ℕ} → Listed through m a → (m ≤ most_identifiers) × Each (λ y. y < most_identifiers) through
   through_fits r fits l = (
-    listed_fits l (omega (arith, filter_few (λ leaf. elem x (path s.nodes leaf)) (leaves s.nodes), leaves_few s.nodes r, fits)),
+    tabled_fits l (omega (arith, filter_few (λ leaf. elem x (path s.nodes leaf)) (leaves s.nodes), leaves_few s.nodes r, fits)),
     each_map (λ y (h : y < length s.nodes). omega (arith, h, fits)) through (filter_keeps (λ y. y < length s.nodes) (λ leaf. elem x (path s.nodes leaf)) (leaves s.nodes) (leaves_within s.nodes r)),
   )
 

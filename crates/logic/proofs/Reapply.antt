@@ -1,5 +1,5 @@
 -- A necessity given on its paths: the worlds that it has still to visit.
-use Prim.Native.Nat.{ℕ, zero, suc, ◌<◌, ◌≤◌}
+use Prim.Native.Nat.{ℕ, zero, suc, ◌≤◌}
 use mathlib.Core.Path.{◌≡◌, refl, sym, ap, ◌∙◌, subst}
 use mathlib.Core.Bool.{Bool, true, false, cond}
 use mathlib.Core.List.{List, [], ◌∷◌, ◌++◌, append-nil}
@@ -17,16 +17,16 @@ use Rattle.definition.proofs.Tree.Shape.{leaves_few}
 use Rattle.definition.specs.Shortcuts.{ThroughSpawner}
 use Rattle.definition.proofs.Engine.Reapplied.{spawned_leaves}
 use Rattle.arrays.specs.Listed.{Listed}
-use Rattle.arrays.proofs.Listed.{listed_fits}
+use Rattle.arrays.proofs.Tabled.{tabled_fits}
 use Rattle.tree.specs.Lay.{Laid, HasNodes}
 use Rattle.tree.specs.declared.ProofTree.{ProofTree}
 use Rattle.tree.proofs.Paths.{listed_as}
-use Rattle.tree.proofs.Nodes.{held_lays, held_long, held_as}
+use Rattle.tree.proofs.Nodes.{held_lays, held_as}
 use Rattle.necessities.specs.Stack.{HasStack, visits}
 use Rattle.necessities.specs.declared.Necessities.{Necessities}
 use Rattle.subtree.specs.Items.{Item, Listing}
 use Rattle.subtree.specs.declared.Items.{Items}
-use Rattle.modality.specs.Stands.{Stands}
+use Rattle.tree.specs.Stands.{Stands}
 use Rattle.logic.specs.Gave.{Gave}
 use Rattle.logic.proofs.Giving.{nothing_given}
 
@@ -92,16 +92,11 @@ module _ (t : List Node) (tree : Treed t) (n : Necessity) (at : ThroughSpawner t
 
 pub paths_few : (t : List Node) → Treed t → (n : Necessity) {base : ℕ} {u : ProofTree} → Stands t base u → {r : ℕ} {o : List ℕ} → Listed (leaves_of t n) r o → r ≤ most_identifiers
 unfolding leaves_of
-paths_few t tree n d k = listed_fits k (omega (arith, filter_few (λ leaf. runs_through n (path t leaf)) (leaves t), leaves_few t tree, d.lays.fits, length-append t d.more))
+paths_few t tree n d k = tabled_fits k (omega (arith, filter_few (λ leaf. runs_through n (path t leaf)) (leaves t), leaves_few t tree, d.lays.fits, length-append t d.more))
 
 pub paths_seen : (P : ℕ → Type 0) (t : List Node) (n : Necessity) → Each P (leaves t) → Each P (leaves_of t n)
 unfolding leaves_of
 paths_seen P t n h = filter_keeps P (λ leaf. runs_through n (path t leaf)) (leaves t) h
-
--- a full table stays full
-pub gave_full : {ns : List Node} {rs : List Item} {made : Reapplication} {u : ProofTree} {x : Items} → HasNodes ns u → most_identifiers < u.len → Gave ns rs made u x
-gave_full {ns} {rs} {made} h big =
-    record { nodes = held_long (ns ++ made.nodes) h big (omega (arith, length-append ns made.nodes)); rows = λ small. absurd (omega (arith, small, big)) }
 
 set_same : (ns : List Necessity) (i : ℕ) (none : Necessity) → ns ≡ set ns i (get_or ns i none)
 set_same [] zero none = refl

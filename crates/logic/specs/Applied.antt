@@ -29,7 +29,7 @@ module _ (A : Tableau) where
     pub spawned : Each (ThroughSpawner s.nodes) s.necessities
     pub fits : length s.nodes ≤ most_identifiers
     pub count : length s.nodes ≡ A.tree.len
-    pub laid : A.tree.cells ≡ lay s.nodes
+    pub laid : A.tree.nodes ≡ lay s.nodes
     pub waiting : HasList q A.waiting
     pub graph : HasGraph s.graph A.graph
     pub few : A.graph.worlds < graph_width

@@ -28,11 +28,13 @@ ghost use Rattle.logic.specs.Gave.{Gave};
 ghost use Rattle.logic.specs.Applied.{Before, After, necessity_of};
 
 use arrays::Numbers;
+use bits::WorldSet;
 use formula::FormulaNumber;
 use graph::{Graph, PossibleWorld};
-use limits::{MOST_IDENTIFIERS, Worlds};
+use limits::MOST_IDENTIFIERS;
 use modality::{
-    Forking, give_on_leaf, is_reapplied, leaves_of, leaves_through, unvisited, worlds_on_paths,
+    Forking, PathWorlds, give_on_leaf, is_reapplied, leaves_of, leaves_through, unvisited,
+    worlds_on_paths,
 };
 use necessities::Necessities;
 use setting::Setting;
@@ -48,66 +50,56 @@ pub struct Tableau {
     pub waiting: Numbers,
 }
 
-// The word of leaf x.
-fn word_at(seen: &Worlds, x: ProofTreeNodeID) -> u32
-    ensures { x.0 < most_identifiers → result ≡ get_or seen.now x.0 0 }
-{
-    let i = x.0 as usize;
-    if MOST_IDENTIFIERS <= i {
-        return 0;
-    }
-    seen[i]
-}
-
-// Path by path, a node for each of the worlds that occurs there, as the leaf's word says.
+// Path by path, a node for each of the worlds that occurs there.
 fn give_on(
     tree: &mut ProofTree,
     spawner: ProofTreeNodeID,
     formula: FormulaNumber,
-    seen: &Worlds,
-    worlds: u32,
+    seen: &PathWorlds,
+    worlds: WorldSet,
     on: &Numbers,
     items: &mut Items,
 )
     ensures { (t more : List Node) (fk : Option Fork) (n : Necessity) (ls : List ℕ) (rs : List subtrees.Item) → n.spawner ≡ spawner.0 → n.formula ≡ formula.0
         → HasList ls on.now → on.now.len ≤ most_identifiers → Each (Seen t fk seen.now) ls
         → HasNodes (t ++ more) tree.old → (tree.old.len ≤ most_identifiers → Listing rs [] items.old tree.old.len)
-        → Gave (t ++ more) rs (give_on t fk n (worlds_in worlds) (length (t ++ more)) ls) tree.new items.new }
+        → Gave (t ++ more) rs (give_on t fk n (worlds_in worlds.0) (length (t ++ more)) ls) tree.new items.new }
 {
     for j in 0..on.len {
         let leaf = ProofTreeNodeID(on.nth(j));
-        let word = word_at(seen, leaf);
-        let given = give_on_leaf(tree, spawner, formula, word, worlds);
+        let given = give_on_leaf(tree, spawner, formula, seen.on(leaf), worlds);
         items.push(leaf, given);
     }
 }
 
-// The worlds that the necessity of row k has still to visit, one bit each.
-fn worlds_to_visit(graph: &Graph, necessities: &Necessities, k: usize) -> u32
-    ensures { (g : D.Graph) (n : Necessity) → HasRow n k necessities.now → HasGraph g graph.now → worlds_in result ≡ unvisited g n }
+// The worlds that the necessity of row k has still to visit.
+fn worlds_to_visit(graph: &Graph, necessities: &Necessities, k: usize) -> WorldSet
+    ensures { (g : D.Graph) (n : Necessity) → HasRow n k necessities.now → HasGraph g graph.now → worlds_in result.0 ≡ unvisited g n }
 {
-    unvisited(graph, necessities.visited_at(k), necessities.world_at(k))
+    let necessity = necessities.at(k);
+    unvisited(graph, necessity.visited, necessity.world)
 }
 
-// The necessity of row k, i below the top, is given on its paths for the worlds of the word, which it has then visited if it has a path.
+// The necessity of row k, i below the top, is given on its paths for these worlds, which it has then visited if it has a path.
 fn reapply_necessity(
     tree: &mut ProofTree,
     necessities: &mut Necessities,
     k: usize,
-    seen: &Worlds,
-    worlds: u32,
+    seen: &PathWorlds,
+    worlds: WorldSet,
     on: &Numbers,
     items: &mut Items,
 )
     ensures { (t more : List Node) (g : D.Graph) (fk : Option Fork) (ns : List Necessity) (none : Necessity) (rs : List subtrees.Item) (i : ℕ)
-        → HasStack ns necessities.old → i + k + 1 ≡ necessities.old.count → worlds_in worlds ≡ unvisited g (get_or ns i none)
+        → HasStack ns necessities.old → i + k + 1 ≡ necessities.old.count → worlds_in worlds.0 ≡ unvisited g (get_or ns i none)
         → HasList (leaves_of t (get_or ns i none)) on.now → on.now.len ≤ most_identifiers → Each (Seen t fk seen.now) (leaves_of t (get_or ns i none))
         → HasNodes (t ++ more) tree.old → (tree.old.len ≤ most_identifiers → Listing rs [] items.old tree.old.len)
         → Gave (t ++ more) rs (reapply_necessity t g fk (length (t ++ more)) (get_or ns i none)) tree.new items.new
         × HasStack (set ns i (visiting t g (get_or ns i none))) necessities.new }
 {
-    let f = necessities.formula_at(k);
-    give_on(tree, necessities.spawner_at(k), f, seen, worlds, on, items);
+    let necessity = necessities.at(k);
+    let spawner = necessity.spawner;
+    give_on(tree, spawner, necessity.formula, seen, worlds, on, items);
     if on.len == 0 {
         return;
     }
@@ -123,7 +115,7 @@ fn reapply_if_on_path(
     necessities: &mut Necessities,
     k: usize,
     node: ProofTreeNodeID,
-    seen: &Worlds,
+    seen: &PathWorlds,
     items: &mut Items,
 )
     ensures { (t more : List Node) (g : D.Graph) (ns : List Necessity) (none : Necessity) (rs : List subtrees.Item) (i : ℕ) (fk : Fork)
@@ -137,14 +129,14 @@ fn reapply_if_on_path(
         return;
     }
     let fresh = worlds_to_visit(graph, necessities, k);
-    if fresh == 0 {
+    if fresh.is_empty() {
         return;
     }
-    let spawner = necessities.spawner_at(k);
+    let spawner = necessities.at(k).spawner;
     if !is_reapplied(tree, base, node, spawner) {
         return;
     }
-    let mut on = Numbers::new();
+    let mut on = Numbers::new(0);
     leaves_through(tree, base, spawner, &mut on);
     reapply_necessity(tree, necessities, k, seen, fresh, &on, items);
 }
@@ -156,7 +148,7 @@ fn reapply_necessity_after_possibility(
     graph: &Graph,
     necessities: &mut Necessities,
     node: ProofTreeNodeID,
-    seen: &Worlds,
+    seen: &PathWorlds,
     items: &mut Items,
 )
     ensures { (t more : List Node) (g : D.Graph) (ns : List Necessity) (rs : List subtrees.Item) (fk : Fork)
@@ -185,7 +177,7 @@ fn store_necessity(
     ensures { (s : State) → Treed s.nodes → length s.nodes ≡ tree.now.len → Laid s.nodes tree.now → HasStack s.necessities necessities.old → necessities.old.count < most_identifiers
         → HasStack (necessity_of s x.0 f.0 ∷ s.necessities) necessities.new }
 {
-    let mut stored = Numbers::new();
+    let mut stored = Numbers::new(0);
     leaves_through(tree, tree.len, x, &mut stored);
     necessities.store(f, tree.world_of(x), x, &stored);
 }
@@ -204,10 +196,10 @@ pub fn apply_necessity(
     let k = tableau.necessities.count;
     store_necessity(&tableau.tree, &mut tableau.necessities, x, f);
     let base = tableau.tree.len;
-    let mut below = Numbers::new();
+    let mut below = Numbers::new(0);
     leaves_through(&tableau.tree, base, x, &mut below);
-    let mut on = Numbers::new();
-    let row = tableau.necessities.leaf_row_at(k);
+    let mut on = Numbers::new(0);
+    let row = tableau.necessities.at(k).leaf_row as usize;
     leaves_of(
         &tableau.tree,
         base,
@@ -216,7 +208,7 @@ pub fn apply_necessity(
         &below,
         &mut on,
     );
-    let mut seen = [0u32; MOST_IDENTIFIERS];
+    let mut seen = PathWorlds::new();
     worlds_on_paths(&tableau.tree, base, None, &on, &mut seen);
     let fresh = worlds_to_visit(&tableau.graph, &tableau.necessities, k);
     let mut items = Items::new();
@@ -279,16 +271,16 @@ fn worlds_at_fork(
     x: ProofTreeNodeID,
     v: PossibleWorld,
     stored: usize,
-    seen: &mut Worlds,
+    seen: &mut PathWorlds,
 )
-    ensures { (t : List Node) → Treed t → length t ≡ tree.now.len → Laid t tree.now → length seen.old ≡ most_identifiers → 0 < stored
+    ensures { (t : List Node) → Treed t → length t ≡ tree.now.len → Laid t tree.now → length seen.old.sets ≡ most_identifiers → 0 < stored
         → Each (Seen t (some (record { node = x.0; world = v.0 })) seen.new) (leaves t) }
 {
     if stored == 0 {
         return;
     }
     let forking = Some(Forking { node: x, world: v });
-    let mut all = Numbers::new();
+    let mut all = Numbers::new(0);
     tree.leaves_below(ProofTreeNodeID::ROOT, tree.len, &mut all);
     worlds_on_paths(tree, tree.len, forking, &all, seen);
 }
@@ -307,7 +299,7 @@ pub fn apply_possibility(
     let v = tableau.graph.forked_world();
     let u = tableau.tree.world_of(x);
     tableau.graph.fork_world(u, setting);
-    let mut seen = [0u32; MOST_IDENTIFIERS];
+    let mut seen = PathWorlds::new();
     let stored = tableau.necessities.count;
     worlds_at_fork(&tableau.tree, x, v, stored, &mut seen);
     let base = tableau.tree.len;

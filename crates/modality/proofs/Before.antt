@@ -1,29 +1,21 @@
 -- Reads of the tree as it stood before a step.
 use Prim.Native.Nat.{ℕ, ◌<◌, ◌≤◌}
-use mathlib.Core.Path.{◌≡◌, refl, sym, ap, ◌∙◌}
-use mathlib.Core.Bool.{Bool, not}
+use mathlib.Core.Path.{◌≡◌, sym, ap, ◌∙◌}
+use mathlib.Core.Bool.{Bool}
 use mathlib.Core.List.{List, ◌++◌}
 use native.Mathlib.Omega.{arith}
-use lib.Dec.{ltb, eqb}
+use lib.Dec.{ltb}
 use lib.ListN.{get_or-eq_default}
 use borrow.Author.Tests.{le-ltb}
 use Rattle.definition.specs.Lists.{elem}
 use Rattle.definition.specs.Records.{nobody}
-use Rattle.definition.specs.Tree.{Node, Place, Root, Left, Middle, Right, Unplaced, new_node, node_at}
+use Rattle.definition.specs.Tree.{Node, new_node, node_at}
 use Rattle.definition.specs.Modality.{Necessity}
 use Rattle.definition.proofs.Tree.Nodes.{node_append}
 use Rattle.definition.specs.TreeShape.{placed}
 use Rattle.tree.specs.declared.ProofTree.{ProofTree}
-use Rattle.tree.specs.Lay.{place_code, Laid}
-use Rattle.modality.specs.Stands.{Stands}
-
-code_placed : (p : Place) → not (eqb (place_code p) 65535) ≡ placed p
-unfolding placed
-code_placed Root = refl
-code_placed Left = refl
-code_placed Middle = refl
-code_placed Right = refl
-code_placed Unplaced = refl
+use Rattle.tree.specs.Lay.{Laid}
+use Rattle.tree.specs.Stands.{Stands}
 
 -- ---- in the tree as it stood
 module _ {t : List Node} {base : ℕ} {a : ProofTree} (d : Stands t base a) (x : ℕ) where
@@ -31,10 +23,8 @@ module _ {t : List Node} {base : ℕ} {a : ProofTree} (d : Stands t base a) (x :
   unfolding placed
   placed_out h = le-ltb x base h ∙ ap (λ (n : Node). placed n.place) (sym (get_or-eq_default t (new_node nobody nobody nobody) (omega (arith, d.count))))
 
-  pub placed_in : x < base → {v : ℕ} → ((ns : List Node) → Laid ns a → v ≡ place_code (node_at ns x).place) → not (eqb v 65535) ≡ placed (node_at t x).place
-  placed_in low e =
-      ap (λ (v : ℕ). not (eqb v 65535)) (e (t ++ d.more) d.lays ∙ ap (λ (n : Node). place_code n.place) (node_append t d.more x (omega (arith, d.count))))
-      ∙ code_placed (node_at t x).place
+  pub placed_in : x < base → {b : Bool} → ((ns : List Node) → Laid ns a → b ≡ placed (node_at ns x).place) → b ≡ placed (node_at t x).place
+  placed_in low e = e (t ++ d.more) d.lays ∙ ap (λ (n : Node). placed n.place) (node_append t d.more x (omega (arith, d.count)))
 
 -- what a loop up a path looks for
 abbrev pub stored : Necessity → ℕ → Bool

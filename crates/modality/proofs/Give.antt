@@ -1,21 +1,21 @@
 -- Worlds that are kept, leaves that are kept, and nodes that are made for worlds that are kept.
 use Prim.Native.Nat.{ℕ, ◌<◌, ◌≤◌}
-use mathlib.Core.Path.{◌≡◌, refl, sym, ap, ap₂, ◌∙◌}
+use mathlib.Core.Path.{◌≡◌, refl, sym, ap, ◌∙◌}
 use mathlib.Core.Bool.{Bool, false, not, ◌&&◌}
-use mathlib.Core.List.{List, [], ◌∷◌, ◌++◌, map, append_assoc, append-nil}
+use mathlib.Core.List.{List, [], ◌∷◌, ◌++◌, map, append_assoc}
 use native.Mathlib.Omega.{arith}
 use lib.Dec.{ltb}
 use borrow.Author.Tests.{lt-ltb, le-ltb}
 use Rattle.bits.specs.Bits.{bit_of}
 use Rattle.bits.specs.Worlds.{set_below, worlds_in}
-use Rattle.bits.proofs.Power.{no_bit}
-use Rattle.bits.proofs.Worlds.{worlds_as, worlds_none}
+use Rattle.bits.proofs.Words.{no_bit}
+use Rattle.bits.proofs.Worlds.{worlds_as}
 use Rattle.definition.specs.Lists.{elem, filter, below}
 use Rattle.definition.specs.Graph.{Graph, edge, reached}
 use Rattle.definition.specs.Tree.{Node, path}
 use Rattle.definition.specs.Modality.{Necessity, runs_through, unvisited}
+use Rattle.tree.specs.declared.ProofTreeNode.{ProofTreeNode}
 use Rattle.tree.specs.Lay.{Held}
-use Rattle.tree.proofs.Nodes.{held_as}
 use Rattle.modality.proofs.Lists.{filter_both, filter_no}
 
 -- ---- what is kept
@@ -53,22 +53,19 @@ worlds_both p worlds here both common has =
     worlds_as (λ v. bit_of worlds v && p v) both 32 (omega arith) (λ k h. common k ∙ rw (has k h, lt-ltb k 32 h) refl) ∙ filter_both p (bit_of worlds) (below 32)
 
 -- what is made, and what the worlds of the rest still give
-pub record Making (f : ℕ → Node) (goal : List Node) (rest len : ℕ) (a : List ℕ) : Type 0 where
+pub record Making (f : ℕ → Node) (goal : List Node) (rest : List ℕ) (len : ℕ) (a : List ProofTreeNode) : Type 0 where
   pub made : List Node
   pub held : Held made len a
-  pub left : made ++ map f (worlds_in rest) ≡ goal
+  pub left : made ++ map f rest ≡ goal
 
-pub make_start : (f : ℕ → Node) (ns : List Node) {ws : List ℕ} (rest : ℕ) {len : ℕ} {a : List ℕ} → worlds_in rest ≡ ws → Held ns len a → Making f (ns ++ map f ws) rest len a
-make_start f ns rest e h = record { made = ns; held = h; left = ap (λ (l : List ℕ). ns ++ map f l) e }
+pub make_start : (f : ℕ → Node) (ns : List Node) {ws rest : List ℕ} {len : ℕ} {a : List ProofTreeNode} → rest ≡ ws → Held ns len a → Making f (ns ++ map f ws) rest len a
+make_start f ns e h = record { made = ns; held = h; left = ap (λ (l : List ℕ). ns ++ map f l) e }
 
-module _ {f : ℕ → Node} {goal : List Node} {rest len : ℕ} {a : List ℕ} (m : Making f goal rest len a) where
-  pub make_next : {v : ℕ} {vs : List ℕ} (x more : ℕ) {n : ℕ} {b : List ℕ} → worlds_in rest ≡ v ∷ vs → x ≡ v → worlds_in more ≡ vs → ((ms : List Node) → Held ms len a → Held (ms ++ (f x ∷ [])) n b) → Making f goal more n b
-  make_next x more e is others one =
+module _ {f : ℕ → Node} {goal : List Node} {rest : List ℕ} {len : ℕ} {a : List ProofTreeNode} (m : Making f goal rest len a) where
+  pub make_next : {v : ℕ} {vs : List ℕ} {n : ℕ} {b : List ProofTreeNode} → rest ≡ v ∷ vs → ((ms : List Node) → Held ms len a → Held (ms ++ (f v ∷ [])) n b) → Making f goal vs n b
+  make_next {v} {vs} e one =
       record {
-        made = m.made ++ (f x ∷ []);
+        made = m.made ++ (f v ∷ []);
         held = one m.made m.held;
-        left = append_assoc m.made (f x ∷ []) (map f (worlds_in more)) ∙ ap₂ (λ (y : ℕ) (l : List ℕ). m.made ++ (f y ∷ map f l)) is others ∙ ap (λ (l : List ℕ). m.made ++ map f l) (sym e) ∙ m.left;
+        left = append_assoc m.made (f v ∷ []) (map f vs) ∙ ap (λ (l : List ℕ). m.made ++ map f l) (sym e) ∙ m.left;
       }
-
-  pub make_end : rest ≡ 0 → Held goal len a
-  make_end e = held_as goal (sym (append-nil m.made) ∙ ap (λ (l : List ℕ). m.made ++ map f l) (sym (ap worlds_in e ∙ worlds_none)) ∙ m.left) m.held

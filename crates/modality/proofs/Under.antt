@@ -20,7 +20,7 @@ use Rattle.definition.specs.Shortcuts.{ThroughSpawner}
 use Rattle.definition.proofs.Engine.Reapplied.{reapplied_is, reapplied_out, reapplied_loose}
 use Rattle.tree.proofs.Paths.{listed_as, nobody_leaf}
 use Rattle.tree.specs.declared.ProofTree.{ProofTree}
-use Rattle.modality.specs.Stands.{Stands}
+use Rattle.tree.specs.Stands.{Stands}
 
 -- nodes that are not in the tree yet change no leaves
 module _ (t : List Node) (r : Treed t) (more : List Node) (room : length (t ++ more) ≤ most_identifiers) where

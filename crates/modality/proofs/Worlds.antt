@@ -14,9 +14,11 @@ use lib.Seq.{take-suc, take_all, get_or-set_same, get_or-set_other}
 use borrow.Author.Tests.{ltb-true, ltb-false, eqb-false}
 use Rattle.definition.specs.Limits.{most_identifiers}
 use Rattle.bits.specs.Bits.{bit_of}
-use Rattle.bits.proofs.Power.{no_bit}
+use Rattle.bits.specs.Worlds.{no_world}
+use Rattle.bits.specs.declared.WorldSet.{WorldSet}
+use Rattle.bits.proofs.Words.{no_bit}
 use Rattle.arrays.specs.Listed.{Listed}
-use Rattle.arrays.proofs.Listed.{listed_count}
+use Rattle.arrays.proofs.Tabled.{tabled_count}
 use Rattle.definition.specs.Lists.{Each, any, elem}
 use Rattle.definition.specs.Records.{is_nobody}
 use Rattle.definition.specs.Tree.{Node, node_at, upward, path}
@@ -24,6 +26,7 @@ use Rattle.definition.specs.Modality.{Fork, forked_on, occurs}
 use Rattle.definition.proofs.Basics.Lists.{or_left, or_right, either, alike, each_get, each_map, each_append}
 use Rattle.tree.proofs.Paths.{climb_start, climb_next}
 use Rattle.modality.specs.declared.Forking.{Forking}
+use Rattle.modality.specs.declared.PathWorlds.{PathWorlds}
 use Rattle.modality.specs.Forking.{fork_of}
 use Rattle.modality.specs.Seen.{forked_at, brings, Seen}
 use Rattle.modality.proofs.Lists.{eqb_sym, any_none, any_or}
@@ -95,31 +98,34 @@ elem_not x (y ∷ ys) e zero h q = eqb-false x y (or_left (eqb x y) (elem x ys) 
 elem_not x (y ∷ ys) e (suc j) h q = elem_not x ys (or_right (eqb x y) (elem x ys) e) j (omega arith) q
 
 module _ (t : List Node) (k : Option Fork) (ls : List ℕ) {m : ℕ} {o : List ℕ} (l : Listed ls m o) (small : m ≤ most_identifiers) where
-  module _ (a : List ℕ) (j leaf word : ℕ) (low : leaf < most_identifiers) (has : (v : ℕ) → v < 32 → bit_of word v ≡ occurs t k (path t leaf) v) (long : length a ≡ most_identifiers) where
-    stored : Seen t k (set a leaf word) leaf
-    stored = record { low = low; same = λ v h. ap (λ (w : ℕ). bit_of w v) (get_or-set_same a leaf word 0 (omega (arith, low, long))) ∙ has v h }
+  module _ (a : List WorldSet) (leaf : ℕ) (w : WorldSet) (low : leaf < most_identifiers) (has : (v : ℕ) → v < 32 → bit_of w.0 v ≡ occurs t k (path t leaf) v) (long : length a ≡ most_identifiers) where
+    abbrev put : PathWorlds
+    put = record { sets = set a leaf w }
 
-    others : (x : ℕ) → Seen t k a x → Seen t k (set a leaf word) x
+    stored : Seen t k put leaf
+    stored = record { low = low; same = λ v h. ap (λ (x : WorldSet). bit_of x.0 v) (get_or-set_same a leaf w no_world (omega (arith, low, long))) ∙ has v h }
+
+    others : (x : ℕ) → Seen t k (record { sets = a }) x → Seen t k put x
     others x s =
-        ⊎_elim (λ (e : x ≡ leaf). subst (Seen t k (set a leaf word)) (sym e) stored)
-        (λ e. record { low = s.low; same = λ v h. ap (λ (w : ℕ). bit_of w v) (get_or-set_other a leaf x word 0 e) ∙ s.same v h }) (alike x leaf)
+        ⊎_elim (λ (e : x ≡ leaf). subst (Seen t k put) (sym e) stored)
+        (λ e. record { low = s.low; same = λ v h. ap (λ (y : WorldSet). bit_of y.0 v) (get_or-set_other a leaf x w no_world e) ∙ s.same v h }) (alike x leaf)
 
-  pub seen_next : (a b : List ℕ) (j leaf word : ℕ) → Each (λ x. x < most_identifiers) ls → j < m → leaf ≡ get_or ls j 0 → ((v : ℕ) → v < 32 → bit_of word v ≡ occurs t k (path t leaf) v) →
-      (leaf < most_identifiers → b ≡ set a leaf word) → (length a ≡ most_identifiers) × Each (Seen t k a) (take j ls) → (length b ≡ most_identifiers) × Each (Seen t k b) (take (j + 1) ls)
-  seen_next a b j leaf word each h e has put seen =
-      let inside : j < length ls = omega (arith, h, listed_count l small) in
+  pub seen_next : (a b : List WorldSet) (j leaf : ℕ) (w : WorldSet) → Each (λ x. x < most_identifiers) ls → j < m → leaf ≡ get_or ls j 0 → ((v : ℕ) → v < 32 → bit_of w.0 v ≡ occurs t k (path t leaf) v) →
+      (leaf < most_identifiers → b ≡ set a leaf w) → (length a ≡ most_identifiers) × Each (Seen t k (record { sets = a })) (take j ls) → (length b ≡ most_identifiers) × Each (Seen t k (record { sets = b })) (take (j + 1) ls)
+  seen_next a b j leaf w each h e has stores seen =
+      let inside : j < length ls = omega (arith, h, tabled_count l small) in
       let low : leaf < most_identifiers = rw e (each_get (λ x. x < most_identifiers) ls 0 each j (λ past. absurd (omega (arith, past, inside)))) in
-      rw (put low, add-one, take-suc ls j 0 inside, ← e) (
-        length-set a leaf word ∙ seen.0,
-        each_append (Seen t k (set a leaf word)) (take j ls) (leaf ∷ []) (each_map (others a j leaf word low has seen.0) (take j ls) seen.1) (stored a j leaf word low has seen.0, tt),
+      rw (stores low, add-one, take-suc ls j 0 inside, ← e) (
+        length-set a leaf w ∙ seen.0,
+        each_append (Seen t k (record { sets = set a leaf w })) (take j ls) (leaf ∷ []) (each_map (others a leaf w low has seen.0) (take j ls) seen.1) (stored a leaf w low has seen.0, tt),
       )
 
-  pub seen_end : (a : List ℕ) (j : ℕ) → m ≤ j → Each (Seen t k a) (take j ls) → Each (Seen t k a) ls
-  seen_end a j h seen = rw (take_all j ls (omega (arith, listed_count l small, h))) at seen
+  pub seen_end : (a : PathWorlds) (j : ℕ) → m ≤ j → Each (Seen t k a) (take j ls) → Each (Seen t k a) ls
+  seen_end a j h seen = rw (take_all j ls (omega (arith, tabled_count l small, h))) at seen
 
 -- an entry that is none of theirs
 module _ (ls : List ℕ) {m : ℕ} {o : List ℕ} (l : Listed ls m o) (small : m ≤ most_identifiers) where
-  pub other_next : (a b : List ℕ) (j leaf word x : ℕ) → j < m → leaf ≡ get_or ls j 0 → elem x ls ≡ false → (leaf < most_identifiers → b ≡ set a leaf word) × (most_identifiers ≤ leaf → b ≡ a) → get_or b x 0 ≡ get_or a x 0
-  other_next a b j leaf word x h e out put =
-      let apart : x ≢ leaf = λ q. elem_not x ls out j (omega (arith, h, listed_count l small)) (q ∙ e) in
-      ⊎_elim (λ s. rw (put.0 (ltb-true leaf most_identifiers s)) (get_or-set_other a leaf x word 0 apart)) (λ s. rw (put.1 (ltb-false leaf most_identifiers s)) refl) (either (ltb leaf most_identifiers))
+  pub other_next : (a b : PathWorlds) (j leaf x : ℕ) (w : WorldSet) → j < m → leaf ≡ get_or ls j 0 → elem x ls ≡ false → (leaf < most_identifiers → b.sets ≡ set a.sets leaf w) × (most_identifiers ≤ leaf → b ≡ a) → get_or b.sets x no_world ≡ get_or a.sets x no_world
+  other_next a b j leaf x w h e out put =
+      let apart : x ≢ leaf = λ q. elem_not x ls out j (omega (arith, h, tabled_count l small)) (q ∙ e) in
+      ⊎_elim (λ s. rw (put.0 (ltb-true leaf most_identifiers s)) (get_or-set_other a.sets leaf x w no_world apart)) (λ s. rw (put.1 (ltb-false leaf most_identifiers s)) refl) (either (ltb leaf most_identifiers))

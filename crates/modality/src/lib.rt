@@ -1,11 +1,11 @@
 // Necessities: what is stored of them, on which paths they are given again, and what they give there.
 #![tactic(auto)]
 
-ghost use Rattle.std.specs.Prelude.{◌≡◌, Bool, false, ◌&&◌, ◌||◌, not, List, [], ◌++◌, map, ℕ, ◌≤◌, ◌<◌, ◌+◌, eqb, length, get_or, set};
+ghost use Rattle.std.specs.Prelude.{◌≡◌, Bool, false, ◌&&◌, ◌||◌, not, List, [], ◌++◌, map, ℕ, ◌≤◌, ◌<◌, ◌+◌, length, get_or, set};
 ghost use Rattle.definition.specs.Limits.{most_identifiers};
 ghost use Rattle.arrays.specs.Listed.{HasList};
 ghost use Rattle.bits.specs.Bits.{bit_of};
-ghost use Rattle.bits.specs.Worlds.{worlds_in};
+ghost use Rattle.bits.specs.Worlds.{no_world, worlds_in, InWord};
 ghost use Rattle.definition.specs.Lists.{Each, elem, filter};
 ghost use Rattle.definition.specs.Graph as D;
 ghost use Rattle.definition.specs.Graph.{edge};
@@ -16,19 +16,19 @@ ghost use Rattle.definition.specs.Shortcuts.{ThroughSpawner};
 ghost use Rattle.graph.specs.Drawn.{HasGraph};
 ghost use Rattle.tree.specs.Chain.{DrawnFrom};
 ghost use Rattle.tree.specs.Lay.{HasNodes};
-ghost use Rattle.necessities.specs.Stored.{InRow, InWord};
-ghost use Rattle.modality.specs.Stands.{Stands};
+ghost use Rattle.necessities.specs.Stored.{InRow};
+ghost use Rattle.tree.specs.Stands.{Stands};
 ghost use Rattle.modality.specs.Forking.{fork_of};
 ghost use Rattle.modality.specs.Seen.{brings, Seen};
 
 use arrays::Numbers;
-use bits::{bit, first_world, intersection, other_worlds, with_bit, with_bit_if};
+use bits::WorldSet;
 use formula::FormulaNumber;
 use graph::vertices::vertex_at;
 use graph::{Graph, PossibleWorld};
-use limits::{GRAPH_WIDTH, MOST_IDENTIFIERS, Worlds};
+use limits::{GRAPH_WIDTH, MOST_IDENTIFIERS};
 use necessities::Necessities;
-use tree::{Chain, PLACE_UNPLACED, ProofTree, ProofTreeNodeID};
+use tree::{Chain, ProofTree, ProofTreeNodeID};
 
 // A fork in progress: the forking node and the new world.
 #[derive(Clone, Copy, Debug, PartialEq, Eq)]
@@ -37,14 +37,42 @@ pub struct Forking {
     pub world: PossibleWorld,
 }
 
-// The word has the bit of y.
-fn word_contains(word: u32, y: PossibleWorld) -> bool
-    ensures { (l : List ℕ) → InWord l word → result ≡ elem y.0 l }
-{
-    if 32 <= y.0 {
-        return false;
+// The worlds that occur on the path of each leaf, an entry for each node.
+#[derive(Drop)]
+pub struct PathWorlds {
+    pub sets: [WorldSet; MOST_IDENTIFIERS],
+}
+
+impl PathWorlds {
+    // No world on any path.
+    pub fn new() -> Self
+        ensures { length result.sets ≡ most_identifiers }
+    {
+        PathWorlds {
+            sets: [WorldSet::EMPTY; MOST_IDENTIFIERS],
+        }
     }
-    bit(word, y.0 as usize)
+
+    // The worlds on the path of a leaf.
+    pub fn on(&self, leaf: ProofTreeNodeID) -> WorldSet
+        ensures { leaf.0 < most_identifiers → result ≡ get_or self.now.sets leaf.0 no_world }
+    {
+        let i = leaf.0 as usize;
+        if MOST_IDENTIFIERS <= i {
+            return WorldSet::EMPTY;
+        }
+        self.sets[i]
+    }
+
+    fn put(&mut self, leaf: ProofTreeNodeID, worlds: WorldSet)
+        ensures { (leaf.0 < most_identifiers → self.new.sets ≡ set self.old.sets leaf.0 worlds) × (most_identifiers ≤ leaf.0 → self.new ≡ self.old) }
+    {
+        let i = leaf.0 as usize;
+        if MOST_IDENTIFIERS <= i {
+            return;
+        }
+        self.sets[i] = worlds;
+    }
 }
 
 // The parent of x in the tree as it stood, when it had `base` nodes.
@@ -74,19 +102,9 @@ fn path_runs_through(
     k: usize,
     leaf: ProofTreeNodeID,
 ) -> bool
-    ensures { (t : List Node) (n : Necessity) → Stands t base tree.now → InRow k n.leaves necessities.now.leaves → result ≡ runs_through n (path t leaf.0) }
+    ensures { (t : List Node) (n : Necessity) → Stands t base tree.now → InRow k n.leaves necessities.now.leaves.words → result ≡ runs_through n (path t leaf.0) }
 {
-    let mut cur = leaf;
-    for _ in 0..base {
-        if cur.is_none() {
-            return false;
-        }
-        if necessities.row_contains(k, cur) {
-            return true;
-        }
-        cur = parent_before(tree, base, cur);
-    }
-    false
+    tree.any_on_path(leaf, base, |x| necessities.row_contains(k, x))
 }
 
 // The path goes through node x.
@@ -98,17 +116,7 @@ fn path_goes_through(
 ) -> bool
     ensures { (t : List Node) → Stands t base tree.now → result ≡ elem x.0 (path t leaf.0) }
 {
-    let mut cur = leaf;
-    for _ in 0..base {
-        if cur.is_none() {
-            return false;
-        }
-        if x == cur {
-            return true;
-        }
-        cur = parent_before(tree, base, cur);
-    }
-    false
+    tree.any_on_path(leaf, base, |y| y == x)
 }
 
 // Of the listed leaves, those whose paths run through a leaf stored in row k.
@@ -120,13 +128,14 @@ pub fn leaves_of(
     list: &Numbers,
     out: &mut Numbers,
 )
-    ensures { (t : List Node) (n : Necessity) (ls l : List ℕ) → Stands t base tree.now → InRow k n.leaves necessities.now.leaves → HasList ls list.now → list.now.len ≤ most_identifiers
+    ensures { (t : List Node) (n : Necessity) (ls l : List ℕ) → Stands t base tree.now → InRow k n.leaves necessities.now.leaves.words → HasList ls list.now → list.now.len ≤ most_identifiers
         → HasList l out.old → HasList (l ++ filter (λ leaf. runs_through n (path t leaf)) ls) out.new }
 {
     for j in 0..list.len {
         let leaf = list.nth(j);
-        let runs = path_runs_through(tree, base, necessities, k, ProofTreeNodeID(leaf));
-        out.push_if(leaf, runs);
+        if path_runs_through(tree, base, necessities, k, ProofTreeNodeID(leaf)) {
+            out.push(leaf);
+        }
     }
 }
 
@@ -134,7 +143,7 @@ pub fn leaves_of(
 fn is_placed_before(tree: &ProofTree, base: usize, x: ProofTreeNodeID) -> bool
     ensures { (t : List Node) → Stands t base tree.now → result ≡ placed (node_at t x.0).place }
 {
-    (x.0 as usize) < base && tree.place_of(x) != PLACE_UNPLACED
+    (x.0 as usize) < base && tree.is_placed(x)
 }
 
 // The leaves whose paths go through node x: those at and below it, if it is in the tree. The list is empty at first.
@@ -161,58 +170,42 @@ pub fn is_reapplied(
             || path_goes_through(tree, base, node, spawner))
 }
 
-// The word with the bit of world v, which has one if it is below 32.
-fn with_world(word: u32, v: PossibleWorld) -> u32
-    ensures { (k : ℕ) → k < 32 → bit_of result k ≡ (eqb v.0 k || bit_of word k) }
-{
-    if 32 <= v.0 {
-        return word;
-    }
-    with_bit(word, v.0 as usize)
-}
-
-// The word with the worlds that node x brings to its paths: its own, and the new world if it is the forking node.
+// These worlds, and those that node x brings to its paths: its own, and the new world if it is the forking node.
 fn with_worlds(
     tree: &ProofTree,
     base: usize,
     forking: Option<Forking>,
-    word: u32,
+    worlds: WorldSet,
     x: ProofTreeNodeID,
-) -> u32
-    ensures { (t : List Node) → Stands t base tree.now → (v : ℕ) → v < 32 → bit_of result v ≡ (brings t (fork_of forking) v x.0 || bit_of word v) }
+) -> WorldSet
+    ensures { (t : List Node) → Stands t base tree.now → (v : ℕ) → v < 32 → bit_of result.0 v ≡ (brings t (fork_of forking) v x.0 || bit_of worlds.0 v) }
 {
-    let here = with_world(word, world_before(tree, base, x));
+    let here = worlds.with(world_before(tree, base, x));
     match forking {
-        Some(fork) if fork.node == x => with_world(here, fork.world),
+        Some(fork) if fork.node == x => here.with(fork.world),
         _ => here,
     }
 }
 
 // The worlds that occur on the path of a leaf; the new world of a fork does on the paths through the forking node.
-fn worlds_on(tree: &ProofTree, base: usize, forking: Option<Forking>, leaf: ProofTreeNodeID) -> u32
-    ensures { (t : List Node) → Stands t base tree.now → (v : ℕ) → v < 32 → bit_of result v ≡ occurs t (fork_of forking) (path t leaf.0) v }
+fn worlds_on(
+    tree: &ProofTree,
+    base: usize,
+    forking: Option<Forking>,
+    leaf: ProofTreeNodeID,
+) -> WorldSet
+    ensures { (t : List Node) → Stands t base tree.now → (v : ℕ) → v < 32 → bit_of result.0 v ≡ occurs t (fork_of forking) (path t leaf.0) v }
 {
-    let mut word: u32 = 0;
+    let mut worlds = WorldSet::EMPTY;
     let mut cur = leaf;
     for _ in 0..base {
         if cur.is_none() {
-            return word;
+            return worlds;
         }
-        word = with_worlds(tree, base, forking, word, cur);
+        worlds = with_worlds(tree, base, forking, worlds, cur);
         cur = parent_before(tree, base, cur);
     }
-    word
-}
-
-// Stores the word of leaf x.
-fn put_word(seen: &mut Worlds, x: ProofTreeNodeID, word: u32)
-    ensures { (x.0 < most_identifiers → seen.new ≡ set seen.old x.0 word) × (most_identifiers ≤ x.0 → seen.new ≡ seen.old) }
-{
-    let i = x.0 as usize;
-    if MOST_IDENTIFIERS <= i {
-        return;
-    }
-    seen[i] = word;
+    worlds
 }
 
 // Stores the worlds that occur on the paths of the listed leaves, each at its leaf. The other entries stay.
@@ -221,44 +214,45 @@ pub fn worlds_on_paths(
     base: usize,
     forking: Option<Forking>,
     on: &Numbers,
-    seen: &mut Worlds,
+    seen: &mut PathWorlds,
 )
-    ensures { ((t : List Node) (ls : List ℕ) → Stands t base tree.now → HasList ls on.now → on.now.len ≤ most_identifiers → Each (λ l. l < most_identifiers) ls → length seen.old ≡ most_identifiers
+    ensures { ((t : List Node) (ls : List ℕ) → Stands t base tree.now → HasList ls on.now → on.now.len ≤ most_identifiers → Each (λ l. l < most_identifiers) ls → length seen.old.sets ≡ most_identifiers
         → Each (Seen t (fork_of forking) seen.new) ls)
-        × ((ls : List ℕ) → HasList ls on.now → on.now.len ≤ most_identifiers → (x : ℕ) → elem x ls ≡ false → get_or seen.new x 0 ≡ get_or seen.old x 0) }
+        × ((ls : List ℕ) → HasList ls on.now → on.now.len ≤ most_identifiers → (x : ℕ) → elem x ls ≡ false → get_or seen.new.sets x no_world ≡ get_or seen.old.sets x no_world) }
 {
     for j in 0..on.len {
         let leaf = ProofTreeNodeID(on.nth(j));
-        let word = worlds_on(tree, base, forking, leaf);
-        put_word(seen, leaf, word);
+        let worlds = worlds_on(tree, base, forking, leaf);
+        seen.put(leaf, worlds);
     }
 }
 
 // u reaches v, and v is not one of the worlds visited.
-fn is_unvisited(graph: &Graph, visited: u32, u: PossibleWorld, v: PossibleWorld) -> bool
-    ensures { (g : D.Graph) (l : List ℕ) → HasGraph g graph.now → InWord l visited → result ≡ (edge g u.0 v.0 && not (elem v.0 l)) }
+fn is_unvisited(graph: &Graph, visited: WorldSet, u: PossibleWorld, v: PossibleWorld) -> bool
+    ensures { (g : D.Graph) (l : List ℕ) → HasGraph g graph.now → InWord l visited.0 → result ≡ (edge g u.0 v.0 && not (elem v.0 l)) }
 {
-    graph.contains(u, v) && !word_contains(visited, v)
+    graph.contains(u, v) && !visited.contains(v)
 }
 
-// The worlds that u reaches and that are not visited, one bit each.
-pub fn unvisited(graph: &Graph, visited: u32, u: PossibleWorld) -> u32
-    ensures { (g : D.Graph) (n : Necessity) → n.world ≡ u.0 → HasGraph g graph.now → InWord n.visited visited → worlds_in result ≡ unvisited g n }
+// The worlds that u reaches and that are not visited.
+pub fn unvisited(graph: &Graph, visited: WorldSet, u: PossibleWorld) -> WorldSet
+    ensures { (g : D.Graph) (n : Necessity) → n.world ≡ u.0 → HasGraph g graph.now → InWord n.visited visited.0 → worlds_in result.0 ≡ unvisited g n }
 {
     let from = u.0 as usize;
     if GRAPH_WIDTH < graph.worlds {
-        return 0;
+        return WorldSet::EMPTY;
     }
     if graph.worlds <= from {
-        return 0;
+        return WorldSet::EMPTY;
     }
-    let mut word: u32 = 0;
+    let mut found = WorldSet::EMPTY;
     for v in 0..graph.worlds {
         let step = vertex_at(from * GRAPH_WIDTH + v);
-        let gives = is_unvisited(graph, visited, step.from, step.to);
-        word = with_bit_if(word, step.to.0 as usize, gives);
+        if is_unvisited(graph, visited, step.from, step.to) {
+            found = found.with(step.to);
+        }
     }
-    word
+    found
 }
 
 // On one path: a node for each of the worlds that is among those that occur there, rising, each below the last one.
@@ -266,18 +260,15 @@ pub fn give_on_leaf(
     tree: &mut ProofTree,
     spawner: ProofTreeNodeID,
     formula: FormulaNumber,
-    here: u32,
-    worlds: u32,
+    here: WorldSet,
+    worlds: WorldSet,
 ) -> Chain
-    ensures { DrawnFrom tree.old.len result tree.new.len × ((ns : List Node) (p : ℕ → Bool) → ((v : ℕ) → v < 32 → bit_of here v ≡ p v)
-        → HasNodes ns tree.old → HasNodes (ns ++ map (new_node spawner.0 formula.0) (filter p (worlds_in worlds))) tree.new) }
+    ensures { DrawnFrom tree.old.len result tree.new.len × ((ns : List Node) (p : ℕ → Bool) → ((v : ℕ) → v < 32 → bit_of here.0 v ≡ p v)
+        → HasNodes ns tree.old → HasNodes (ns ++ map (new_node spawner.0 formula.0) (filter p (worlds_in worlds.0))) tree.new) }
 {
     let mut given = Chain::EMPTY;
-    let mut rest = intersection(worlds, here);
-    while rest != 0 {
-        let v = PossibleWorld(first_world(rest));
+    for v in worlds.intersection(here).iter() {
         given = tree.extend(given, spawner, formula, v);
-        rest = other_worlds(rest);
     }
     given
 }

@@ -1,4 +1,3 @@
 pub mod Tables
 pub mod Words
-pub mod Turned
 pub mod Stacks

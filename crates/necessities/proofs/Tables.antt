@@ -13,7 +13,7 @@ use borrow.Author.Tests.{eqb-true, eqb-false, eq-eqb, ne_eqb, lt-ltb, le-ltb, lt
 use Rattle.definition.specs.Limits.{most_identifiers}
 use Rattle.limits.specs.Arrays.{leaf_words}
 use Rattle.arrays.specs.Listed.{Listed}
-use Rattle.arrays.proofs.Listed.{listed_count}
+use Rattle.arrays.proofs.Tabled.{tabled_count}
 use Rattle.bits.specs.Bits.{bit_at, Bits}
 use Rattle.definition.specs.Lists.{Each, elem}
 use Rattle.definition.proofs.Basics.Lists.{each_get}
@@ -97,7 +97,7 @@ module _ (k x : ℕ) (a b : List ℕ) (inside : k < most_identifiers) (small : x
 pub insert_next : (k : ℕ) {l a b c w : List ℕ} (i x m : ℕ) → k < most_identifiers → i < m → Listed l m w → m ≤ most_identifiers → Each (λ y. y < most_identifiers) l → x ≡ get_or l i 0
     → ((p : ℕ → Bool) → Bits p b → Bits (λ j. eqb j (k * most_identifiers + x) || p j) c) → Added k (take i l) a b → Added k (take (i + 1) l) a c
 insert_next k {l} {a} {b} {c} i x m r h p n small e insert d =
-    let t : i < length l = omega (arith, listed_count p n) in
+    let t : i < length l = omega (arith, tabled_count p n) in
     let q : x < most_identifiers = rw e (each_get (λ y. y < most_identifiers) l 0 small i (λ g. absurd (omega (arith, g, t)))) in
     rw (add-one, take-suc l i 0 t, ← e) (added_then d (insert_added k x b c r q insert))
 

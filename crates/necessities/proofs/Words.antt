@@ -5,11 +5,10 @@ use mathlib.Core.Bool.{Bool, true, false, ◌&&◌, ◌||◌}
 use mathlib.Core.List.{List, [], ◌++◌}
 use lib.Dec.{ltb}
 use Rattle.bits.specs.Bits.{bit_of}
-use Rattle.bits.specs.Worlds.{worlds_in}
-use Rattle.bits.proofs.Power.{no_bit}
+use Rattle.bits.specs.Worlds.{worlds_in, InWord}
+use Rattle.bits.proofs.Words.{no_bit}
 use Rattle.bits.proofs.Worlds.{worlds_elem}
 use Rattle.definition.specs.Lists.{elem}
-use Rattle.necessities.specs.Stored.{InWord}
 use Rattle.necessities.proofs.Tables.{elem_append}
 
 module _ {l : List ℕ} {w : ℕ} (d : InWord l w) where

@@ -17,7 +17,8 @@ use Rattle.definition.specs.Run.{State, LogicRuleResult, apply_here, apply_possi
 use Rattle.definition.specs.TreeShape.{Treed}
 use Rattle.definition.proofs.Run.TreeKept.{here_treed}
 use Rattle.arrays.specs.Listed.{HasList}
-use Rattle.arrays.specs.declared.Numbers.{Numbers}
+use Rattle.arrays.specs.Listed.{Numbers}
+use Rattle.tree.specs.declared.ProofTreeNode.{ProofTreeNode}
 use Rattle.tree.specs.Lay.{Held, HasNodes}
 use Rattle.tree.specs.declared.ProofTree.{ProofTree}
 use Rattle.subtree.specs.declared.ProofSubtree.{ProofSubtree}
@@ -72,7 +73,7 @@ after_here F s x recs q r plain h = after_as s q (rule_here F s x recs r plain) 
 
 -- contradictions
 module _ (F : Setting) (s : State) where
-  pub check_skipped : {proved : Bool} {len : ℕ} {a : List ℕ} → F.skip ≡ true → proved ≡ s.proved → Held s.nodes len a →
+  pub check_skipped : {proved : Bool} {len : ℕ} {a : List ProofTreeNode} → F.skip ≡ true → proved ≡ s.proved → Held s.nodes len a →
       Held (check_for_contradictions F s).nodes len a × (len ≤ most_identifiers → proved ≡ (check_for_contradictions F s).proved)
   unfolding check_for_contradictions
   check_skipped {proved = proved} {len} {a} t p h =
@@ -81,7 +82,7 @@ module _ (F : Setting) (s : State) where
   abbrev found : List (Option Pair)
   found = pairs s.formulas s.nodes (leaves s.nodes)
 
-  pub check_made : {r : Bool} {len old : ℕ} {a : List ℕ} → F.skip ≡ false → Held (mark_all s.nodes found) len a → (old ≤ most_identifiers → r ≡ (s.proved || all is_pair found)) →
+  pub check_made : {r : Bool} {len old : ℕ} {a : List ProofTreeNode} → F.skip ≡ false → Held (mark_all s.nodes found) len a → (old ≤ most_identifiers → r ≡ (s.proved || all is_pair found)) →
       Held (check_for_contradictions F s).nodes len a × (old ≤ most_identifiers → r ≡ (check_for_contradictions F s).proved)
   unfolding check_for_contradictions checked_for_contradictions
   check_made {r = r} {len} {old} {a} t h k =

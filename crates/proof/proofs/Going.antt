@@ -29,9 +29,6 @@ pub record Going (F : Setting) (s : State) (n : ℕ) (x : Rust.State) : Type 0 w
   pub ends : run (enough_steps - n) F now ≡ run enough_steps F s
 
 module _ {F : Setting} {s : State} {n : ℕ} {x : Rust.State} where
-  pub going_start : Reached F s → StateHeld F s x → n ≡ 0 → Going F s n x
-  going_start r h e = record { now = s; reached = r; kept = h; ends = ap (λ (m : ℕ). run (enough_steps - m) F s) e }
-
   pub going_stops : (g : Going F s n x) {b : Bool} → b ≡ stops F g.now → b ≡ true → StateHeld F (run enough_steps F s) x
   going_stops g e t = kept_as (sym (steps_stop stops F (enough_steps - n) g.now (sym e ∙ t)) ∙ g.ends) g.kept
 

@@ -10,8 +10,8 @@ use borrow.Author.Tests.{leb-true, leb-false}
 use lib.ListN.{length, length-append}
 use Rattle.definition.specs.Limits.{most_identifiers, most_formulas}
 use Rattle.arrays.specs.Listed.{HasList}
-use Rattle.arrays.specs.declared.Numbers.{Numbers}
-use Rattle.arrays.proofs.Listed.{listed_fits}
+use Rattle.arrays.specs.Listed.{Numbers}
+use Rattle.arrays.proofs.Tabled.{tabled_fits}
 use Rattle.definition.specs.Lists.{Each, empty}
 use Rattle.definition.specs.Setting.{Setting}
 use Rattle.definition.specs.Records.{Rec}
@@ -39,6 +39,7 @@ use Rattle.formula.specs.Recorded.{HasRecords}
 use Rattle.formula.specs.declared.Formulas.{Formulas}
 use Rattle.formula.proofs.Recorded.{recorded_fits}
 use Rattle.graph.specs.Drawn.{HasGraph}
+use Rattle.tree.specs.declared.ProofTreeNode.{ProofTreeNode}
 use Rattle.tree.specs.Lay.{Laid, Held, HasNodes, held, too_many}
 use Rattle.tree.specs.declared.ProofTree.{ProofTree}
 use Rattle.tree.specs.declared.ProofTreeNodeID.{ProofTreeNodeID}
@@ -55,7 +56,7 @@ use Rattle.proof.specs.declared.State as Rust
 use Rattle.proof.specs.StateHeld.{StateLaid, StateHeld, kept, full}
 use Rattle.proof.proofs.Applying.{after_as}
 
-held_over : {ns : List Node} {len : ℕ} {a : List ℕ} → Held ns len a → most_identifiers < len → most_identifiers < length ns
+held_over : {ns : List Node} {len : ℕ} {a : List ProofTreeNode} → Held ns len a → most_identifiers < len → most_identifiers < length ns
 held_over (held b e q) h = absurd (omega arith)
 held_over (too_many b e) h = e
 
@@ -142,7 +143,7 @@ due {F} {s} reached kp goes =
     let i = reached_invariants F s reached in
     let r = ready F i.records s i.fit goes in
     let l = kept_laid kp r.nodes in
-    record { fit = i.fit; watch = i.watch; rooted = i.rooted; goes = goes; ready = r; laid = l; few = listed_fits l.waiting (waiting_fits F i.records s i.fit r.nodes) }
+    record { fit = i.fit; watch = i.watch; rooted = i.rooted; goes = goes; ready = r; laid = l; few = tabled_fits l.waiting (waiting_fits F i.records s i.fit r.nodes) }
 
 -- the state before the rule
 pub due_before : {F : Setting} {k : ℕ} {s : State} {x : Rust.State} {w : Numbers} {q : List ℕ} → Due F k s x → HasList q w →
@@ -190,14 +191,14 @@ module _ (F : Setting) (s : State) (x : ℕ) (q : List ℕ) where
   abbrev next : State
   next = appended F s taken
 
-  formulas_fit : length s.formulas + 2 ≤ most_formulas → {a : Formulas} → HasRecords (s.formulas ++ recs) a → a.count ≤ most_formulas
+  formulas_fit : length s.formulas + 2 ≤ most_formulas → {a : Formulas} → HasRecords (s.formulas ++ recs) a → a.records.len ≤ most_formulas
   formulas_fit h r = recorded_fits r (omega (arith, h, length-append s.formulas recs, made_two s.formulas f))
 
   -- the rule's result, as the step has it
   abbrev Applied : Tableau → Type 0
   Applied A = After A s q (apply F s x)
 
-  next_after : {e : Consequence} {g : Formulas} {A : Tableau} → g.count ≤ most_formulas → Expands s.formulas (expansion s.formulas f) e g →
+  next_after : {e : Consequence} {g : Formulas} {A : Tableau} → g.records.len ≤ most_formulas → Expands s.formulas (expansion s.formulas f) e g →
       After A s q (apply_rule F s x recs (consequence_of e)) → Applied A
   unfolding apply
   next_after small ex h = after_as s q (ap (apply_rule F s x recs) (ex.rule small)) h
@@ -254,10 +255,10 @@ module _ (F : Setting) (s : State) (x : ℕ) (q : List ℕ) where
   pub stepped : {k : ℕ} {y : Rust.State} → Due F k s y → D.pop F s.formulas s.nodes s.waiting ≡ some taken →
       {e : Consequence} {A : Tableau} {g : Formulas} {c d : Numbers} {t : ProofTree} {steps : ℕ} {proved : Bool} → Expands s.formulas (expansion s.formulas f) e g → (y.steps < most_identifiers → steps ≡ suc y.steps) →
       After A s q (apply_rule F s x recs (consequence_of e)) → HasList (map (D.get_node_priority F s.formulas s.nodes) q) c →
-      ((F : Setting) (rs : List Rec) (ns : List Node) (q more : List ℕ) → HasRecords rs g → g.count ≤ most_formulas → Laid ns A.tree → HasList (q ++ more) A.waiting → A.waiting.len ≤ most_identifiers →
+      ((F : Setting) (rs : List Rec) (ns : List Node) (q more : List ℕ) → HasRecords rs g → g.records.len ≤ most_formulas → Laid ns A.tree → HasList (q ++ more) A.waiting → A.waiting.len ≤ most_identifiers →
       HasList (map (D.get_node_priority F rs ns) q) c → HasList (map (D.get_node_priority F rs ns) (q ++ more)) d) →
       t.len ≡ A.tree.len →
-      ((z : State) → y.proved ≡ z.proved → HasRecords z.formulas g → g.count ≤ most_formulas → HasNodes z.nodes A.tree → (F.skip ≡ false → A.tree.len ≤ most_identifiers → CheckedAt z.formulas z.nodes y.tableau.tree.len) →
+      ((z : State) → y.proved ≡ z.proved → HasRecords z.formulas g → g.records.len ≤ most_formulas → HasNodes z.nodes A.tree → (F.skip ≡ false → A.tree.len ≤ most_identifiers → CheckedAt z.formulas z.nodes y.tableau.tree.len) →
       HasNodes (check_for_contradictions F z).nodes t × (A.tree.len ≤ most_identifiers → proved ≡ (check_for_contradictions F z).proved)) →
       StateHeld F (step F s) (after A g d t steps proved)
   unfolding Counted
@@ -278,5 +279,5 @@ module _ (F : Setting) (s : State) (x : ℕ) (q : List ℕ) where
       let ok = held_ok nodes fits in
       let put = subst (λ (v : List ℕ). HasList v A.waiting) w.1 (next_waiting h fits) in
       subst (λ (v : List ℕ). HasList (map (D.get_node_priority F next.formulas next.nodes) v) c') (sym w.1)
-      (classify F next.formulas next.nodes q w.0 rec small (held_lays nodes fits) put (listed_fits (next_waiting h fits) (omega (arith, next_counted k fit o, ok.0, fits)))
+      (classify F next.formulas next.nodes q w.0 rec small (held_lays nodes fits) put (tabled_fits (next_waiting h fits) (omega (arith, next_counted k fit o, ok.0, fits)))
       (subst (λ (v : List ℕ). HasList v c) (sym (classes_appended F k s taken fit q (others_known k fit o))) known))))

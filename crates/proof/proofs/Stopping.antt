@@ -14,7 +14,8 @@ use Rattle.definition.specs.Setting.{Setting}
 use Rattle.definition.specs.Run
 use Rattle.definition.specs.Run.{State, ended, stops}
 use Rattle.definition.proofs.Basics.Lists.{or_true}
-use Rattle.arrays.specs.Listed.{Listed, listed, too_long}
+use Rattle.arrays.specs.Listed.{Listed}
+use Rattle.arrays.specs.Table.{tabled, too_many}
 use Rattle.proof.specs.declared.State as Rust
 use Rattle.proof.specs.StateHeld.{StateHeld, kept, full}
 
@@ -27,8 +28,8 @@ empty_long [] n h k = absurd (omega arith)
 empty_long (x ∷ l) n h k = sym (ne_eqb n 0 (λ q. omega (arith, k, q)))
 
 pub listed_empty : (l : List ℕ) (n : ℕ) (a : List ℕ) → Listed l n a → empty l ≡ eqb n 0
-listed_empty l n a (listed b e q) = empty_count l n e
-listed_empty l n a (too_long b e) = empty_long l n e b
+listed_empty l n a (tabled s b e q) = empty_count l n e
+listed_empty l n a (too_many s b e) = empty_long l n e b
 
 module _ {F : Setting} {s : State} {x : Rust.State} where
   pub stops_full : StateHeld F s x → most_identifiers < x.tableau.tree.len → true ≡ stops F s

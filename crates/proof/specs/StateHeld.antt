@@ -16,7 +16,7 @@ module _ (F : Setting) (s : State) (x : Rust.State) where
     pub formulas : HasRecords s.formulas x.formulas
     pub room : length s.nodes ≤ most_identifiers
     pub count : length s.nodes ≡ x.tableau.tree.len
-    pub nodes : x.tableau.tree.cells ≡ lay s.nodes
+    pub nodes : x.tableau.tree.nodes ≡ lay s.nodes
     pub graph : HasGraph s.graph x.tableau.graph
     pub necessities : HasStack s.necessities x.tableau.necessities
     pub waiting : HasList s.waiting x.tableau.waiting

@@ -29,6 +29,7 @@ use subtree::append_subtree;
 use tree::{ProofTree, ProofTreeNodeID};
 
 // The state of a run: the formulas, what the rules work on, the classes of the nodes that wait, how many steps were made, and whether it has proved.
+// The classes are a list of their own, since the rules queue nodes and know of no class.
 #[derive(Drop)]
 pub struct State {
     pub formulas: Formulas,
@@ -98,7 +99,7 @@ fn check(
     old: usize,
 ) -> bool
     ensures { (tree.new.len ≡ tree.old.len)
-        × ((s : R.State) → proved ≡ s.proved → HasRecords s.formulas formulas.now → formulas.now.count ≤ most_formulas → HasNodes s.nodes tree.old → ((asked setting).skip ≡ false → tree.old.len ≤ most_identifiers → CheckedAt s.formulas s.nodes old)
+        × ((s : R.State) → proved ≡ s.proved → HasRecords s.formulas formulas.now → formulas.now.records.len ≤ most_formulas → HasNodes s.nodes tree.old → ((asked setting).skip ≡ false → tree.old.len ≤ most_identifiers → CheckedAt s.formulas s.nodes old)
         → HasNodes (check_for_contradictions (asked setting) s).nodes tree.new × (tree.old.len ≤ most_identifiers → result ≡ (check_for_contradictions (asked setting) s).proved)) }
 {
     if setting.skip {
@@ -114,7 +115,7 @@ fn check(
 impl State {
     // The state before any step: contradictions are checked once, unless they are skipped.
     pub fn begin(&mut self, setting: Setting)
-        ensures { (s : R.State) → self.old.formulas.count ≤ most_formulas → CheckedAt s.formulas s.nodes 0
+        ensures { (s : R.State) → self.old.formulas.records.len ≤ most_formulas → CheckedAt s.formulas s.nodes 0
             → StateLaid (asked setting) s self.old → StateHeld (asked setting) (check_for_contradictions (asked setting) s) self.new }
     {
         self.proved = check(

@@ -7,8 +7,8 @@ use native.Mathlib.Omega.{arith}
 use lib.ListN.{length, length-reverse}
 use Rattle.definition.specs.Limits.{record_length, most_records, most_marked, most_identifiers, most_formulas}
 use Rattle.arrays.specs.Listed.{HasList}
-use Rattle.arrays.specs.declared.Numbers.{Numbers}
-use Rattle.arrays.proofs.Listed.{listed_fits}
+use Rattle.arrays.specs.Listed.{Numbers}
+use Rattle.arrays.proofs.Tabled.{tabled_fits}
 use Rattle.definition.specs.Lists.{empty, below}
 use Rattle.definition.specs.Records.{Rec, decode, marks}
 use Rattle.definition.specs.Setting.{Setting}
@@ -62,10 +62,10 @@ module _ (rs : List Rec) where
 
       -- records read, nodes linked, root queued, contradictions checked: the start
       pub started : (F : Setting) {y : Rust.State} → length rs ≤ most_records → Blank x → HasRecords rs f →
-          (f.count ≤ most_formulas → HasNodes (rooted (branch_nodes rs)) t) →
-          (length (branch_nodes rs) ≡ t.len → t.len ≤ most_identifiers → t.cells ≡ lay (rooted (branch_nodes rs)) → HasList (begun rs).waiting w) →
-          ((ns : List Node) (q : List ℕ) → f.count ≤ most_formulas → Laid ns t → HasList q w → w.len ≤ most_identifiers → HasList (map (get_node_priority F rs ns) q) c) →
-          (f.count ≤ most_formulas → CheckedAt (begun rs).formulas (begun rs).nodes 0 → StateLaid F (begun rs) then_state → StateHeld F (check_for_contradictions F (begun rs)) y) →
+          (f.records.len ≤ most_formulas → HasNodes (rooted (branch_nodes rs)) t) →
+          (length (branch_nodes rs) ≡ t.len → t.len ≤ most_identifiers → t.nodes ≡ lay (rooted (branch_nodes rs)) → HasList (begun rs).waiting w) →
+          ((ns : List Node) (q : List ℕ) → f.records.len ≤ most_formulas → Laid ns t → HasList q w → w.len ≤ most_identifiers → HasList (map (get_node_priority F rs ns) q) c) →
+          (f.records.len ≤ most_formulas → CheckedAt (begun rs).formulas (begun rs).nodes 0 → StateLaid F (begun rs) then_state → StateHeld F (check_for_contradictions F (begun rs)) y) →
           StateHeld F (start F rs) y
       unfolding start
       started F small blank r tree queue classify check =
@@ -75,4 +75,4 @@ module _ (rs : List Rec) where
           let k = held_ok h low in
           let w = queue (sym (length_rooted (branch_nodes rs)) ∙ k.0) low k.1 in
           let short : length (begun rs).waiting ≤ most_identifiers = omega (arith, ap (length {A = ℕ}) (begun_waiting rs (omega (arith, length_branch rs, few))), length-reverse (below (length (branch_nodes rs))), length_from (length (branch_nodes rs)) 0, length_branch rs, few) in
-          check fits begun_since (begun_laid F r h w (classify (rooted (branch_nodes rs)) (begun rs).waiting fits (held_lays h low) w (listed_fits w short)) blank.graph blank.necessities blank.steps blank.proved)
+          check fits begun_since (begun_laid F r h w (classify (rooted (branch_nodes rs)) (begun rs).waiting fits (held_lays h low) w (tabled_fits w short)) blank.graph blank.necessities blank.steps blank.proved)

@@ -61,7 +61,7 @@ module _ {F : Setting} {s : State} {x : Rust.State} where
     pub ends_laid : StateLaid F s x → EndFits s → {i j k m : ℕ} {v : Bool} →
         n ≡ over (padded node_tray_length (concat_map node_bytes s.nodes)) lent.nodes → f ≡ over (padded formula_tray_length (concat_map record_bytes s.formulas)) lent.formulas →
         e ≡ over (padded edge_tray_length (map row_number s.graph.rows)) lent.edges →
-        v ≡ late F s → (x.tableau.tree.len ≤ 65535 → i ≡ x.tableau.tree.len) → (x.formulas.count ≤ 65535 → j ≡ x.formulas.count) → (x.tableau.graph.worlds ≤ 65535 → k ≡ x.tableau.graph.worlds) → (x.steps ≤ 65535 → m ≡ x.steps) →
+        v ≡ late F s → (x.tableau.tree.len ≤ 65535 → i ≡ x.tableau.tree.len) → (x.formulas.records.len ≤ 65535 → j ≡ x.formulas.records.len) → (x.tableau.graph.worlds ≤ 65535 → k ≡ x.tableau.graph.worlds) → (x.steps ≤ 65535 → m ≡ x.steps) →
         (verdict (record { proved = x.proved; late = v; identifiers = i; formulas = j; worlds = k; steps = m }) ≡ answer_of F (outcome_of_run s)) ×
         (trays n f e ≡ trays_after (outcome_of_run s) lent)
     unfolding outcome_of_run answer_of trays_after laid_over trays_of

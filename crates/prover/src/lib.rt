@@ -19,7 +19,7 @@ ghost use Rattle.prover.specs.Parts.{Blank, Ends};
 
 use arrays::Numbers;
 use branch::{begin_queue, begin_tree, read_records};
-use checks::check;
+use checks::{Lengths, check};
 use formula::Formulas;
 use graph::Graph;
 use limits::{FORMULA_TRAY_LENGTH, MOST_IDENTIFIERS, NODE_TRAY_LENGTH, WORLD_LIMIT};
@@ -101,7 +101,7 @@ fn finish(
         proved: state.proved,
         late: is_late(state),
         identifiers: narrow(tree.len),
-        formulas: narrow(state.formulas.count),
+        formulas: narrow(state.formulas.records.len),
         worlds: narrow(state.tableau.graph.worlds),
         steps: narrow(state.steps),
     })
@@ -124,9 +124,9 @@ fn run(
             tree: ProofTree::new(),
             graph: Graph::new(),
             necessities: Necessities::new(),
-            waiting: Numbers::new(),
+            waiting: Numbers::new(0),
         },
-        classes: Numbers::new(),
+        classes: Numbers::new(0),
         steps: 0,
         proved: false,
     };
@@ -136,7 +136,7 @@ fn run(
     finish(&state, node_tray, formula_tray, edge_tray)
 }
 
-// The call. Nothing is written before the run has ended.
+// The call. Nothing is written before the run has ended. The trays are three slices, as C lends them.
 pub fn prove(
     branch: &[u8],
     flags: u8,
@@ -146,12 +146,11 @@ pub fn prove(
 ) -> Result<Verdict, Refusal>
     ensures { Contract branch.now flags (trays node_tray.old formula_tray.old edge_tray.old) (said result) (trays node_tray.new formula_tray.new edge_tray.new) }
 {
-    check(
-        branch,
-        flags,
-        node_tray.len(),
-        formula_tray.len(),
-        edge_tray.len(),
-    )?;
+    let lent = Lengths {
+        nodes: node_tray.len(),
+        formulas: formula_tray.len(),
+        edges: edge_tray.len(),
+    };
+    check(branch, flags, lent)?;
     run(branch, flags, node_tray, formula_tray, edge_tray)
 }

@@ -8,12 +8,12 @@ use native.Mathlib.Numerals.{add-one}
 use native.Mathlib.Omega.{arith}
 use borrow.Author.Tests.{lt-ltb, le-ltb, eq-eqb, ne_eqb}
 use lib.Dec.{eqb}
-use lib.ListN.{length, length-append, length-map, get_or, take, drop, drop_of_length-le}
-use lib.Seq.{take-suc, take_all, take_at, drop-cons}
+use lib.ListN.{length, length-map, get_or, take, drop, drop_of_length-le}
+use lib.Seq.{take-suc, take_all, drop-cons}
 use Rattle.definition.specs.Limits.{most_identifiers}
 use Rattle.arrays.specs.Data.{without}
-use Rattle.arrays.specs.Listed.{Listed, HasList}
-use Rattle.arrays.proofs.Listed.{listed_count, listed_fits}
+use Rattle.arrays.specs.Listed.{Numbers, Listed, HasList}
+use Rattle.arrays.proofs.Tabled.{tabled_count, tabled_fits}
 use Rattle.definition.specs.Lists.{or_else}
 use Rattle.definition.specs.Records.{Rec}
 use Rattle.definition.specs.Tree.{Node}
@@ -22,7 +22,6 @@ use Rattle.definition.specs.Queue as D
 use Rattle.definition.proofs.Basics.Lists.{from_get}
 use Rattle.definition.proofs.Basics.Identifiers.{length_from}
 use Rattle.std.specs.Prelude as Rust
-use Rattle.arrays.specs.declared.Numbers.{Numbers}
 use Rattle.tree.specs.declared.ProofTreeNodeID.{ProofTreeNodeID}
 use Rattle.queue.specs.Taking.{taken_at, answer, afterwards}
 
@@ -109,7 +108,7 @@ get_map f (x ∷ q) (suc i) h = get_map f q i (omega arith)
 
 module _ (F : Setting) (rs : List Rec) (ns : List Node) (q : List ℕ) {n : ℕ} {a : List ℕ} (l : Listed (map (D.get_node_priority F rs ns) q) n a) (g : n ≤ most_identifiers) where
   pub many : length q ≡ n
-  many = sym (length-map q (D.get_node_priority F rs ns)) ∙ listed_count l g
+  many = sym (length-map q (D.get_node_priority F rs ns)) ∙ tabled_count l g
 
   pub search_begin : (k : ℕ) → k < D.class_count → from_class F rs ns q k ≡ D.pop F rs ns q → from_place F rs ns q k 0 ≡ D.pop F rs ns q
   search_begin k h e = sym (class_step F rs ns q k h) ∙ e
@@ -146,19 +145,6 @@ map_append : (f : ℕ → ℕ) (xs ys : List ℕ) → map f (xs ++ ys) ≡ map f
 map_append f [] ys = refl
 map_append f (x ∷ xs) ys = ap (λ (l : List ℕ). f x ∷ l) (map_append f xs ys)
 
-pub classing_start : (f : ℕ → ℕ) (q more : List ℕ) {m : ℕ} {a : List ℕ} → length (q ++ more) ≤ most_identifiers → Listed (map f q) m a → Listed (map f (take m (q ++ more))) m a
-classing_start f q more {m} {a} h l =
-    let e : length (map f q) ≡ length q = length-map q f in
-    let low : length q ≤ most_identifiers = omega (arith, length-append q more, h) in
-    let z : length q ≡ m = sym e ∙ listed_count l (listed_fits l (omega (arith, e, low))) in
-    subst (λ (v : List ℕ). Listed (map f v) m a) (sym (take_at q more m z)) l
-
-pub classing_next : (f : ℕ → ℕ) (q : List ℕ) (i x v : ℕ) {n : ℕ} {b : List ℕ} → i < length q → x ≡ get_or q i 0 → v ≡ f x →
-    Listed (map f (take i q) ++ (v ∷ [])) n b → Listed (map f (take (i + 1) q)) n b
-classing_next f q i x v {n} {b} h e z =
-    subst (λ (w : List ℕ). Listed w n b)
-    (sym (ap (map f) (ap (λ (j : ℕ). take j q) (add-one i) ∙ take-suc q i 0 h) ∙ map_append f (take i q) (get_or q i 0 ∷ []) ∙ ap (λ (w : ℕ). map f (take i q) ++ (w ∷ [])) (sym (z ∙ ap f e))))
-
 pub classing_end : (f : ℕ → ℕ) (q : List ℕ) (i : ℕ) {n : ℕ} {a : List ℕ} → length q ≤ i → Listed (map f (take i q)) n a → Listed (map f q) n a
 classing_end f q i {n} {a} h = subst (λ (v : List ℕ). Listed (map f v) n a) (take_all i q h)
 
@@ -174,18 +160,18 @@ without_map f q i = sym (map_append f (take i q) (drop (suc i) q) ∙ rw (take_m
 module _ (f : ℕ → ℕ) (q : List ℕ) (w c : Numbers) (p : HasList q w) (k : HasList (map f q) c) (g : w.len ≤ most_identifiers) where
   pub as_many : c.len ≡ w.len
   as_many =
-      let e : length (map f q) ≡ w.len = length-map q f ∙ listed_count p g in
-      sym (listed_count k (listed_fits k (omega (arith, e, g)))) ∙ e
+      let e : length (map f q) ≡ w.len = length-map q f ∙ tabled_count p g in
+      sym (tabled_count k (tabled_fits k (omega (arith, e, g)))) ∙ e
 
   module _ (o : Option D.Popped) (at : ℕ) (e : o ≡ taken_at q at) where
     pub pop_none : w.len ≤ at → Answered f q o Rust.None w c
     unfolding answer afterwards
     pop_none h =
-        let z : o ≡ none = e ∙ taken_out q at (omega (arith, listed_count p g)) in
+        let z : o ≡ none = e ∙ taken_out q at (omega (arith, tabled_count p g)) in
         rw z (refl, p, k)
 
     pub pop_some : (x : ℕ) (w' c' : Numbers) → at < w.len → x ≡ get_or q at 0 → HasList (without q at) w' → HasList (without (map f q) at) c' → Answered f q o (Rust.Some (record { 0 = x })) w' c'
     unfolding answer afterwards
     pop_some x w' c' h y l r =
-        let z : o ≡ some (record { node = get_or q at 0; others = without q at }) = e ∙ taken_in q at (omega (arith, listed_count p g)) in
+        let z : o ≡ some (record { node = get_or q at 0; others = without q at }) = e ∙ taken_in q at (omega (arith, tabled_count p g)) in
         rw (z, y) (refl, l, subst (λ (v : List ℕ). HasList v c') (without_map f q at) r)

@@ -1,4 +1,5 @@
 // The queue of waiting nodes: their identifiers in the order in which they were queued, and their classes in the same order.
+// Two lists, since the rules queue nodes and know of no class.
 #![tactic(auto)]
 
 ghost use Rattle.std.specs.Prelude.{◌≡◌, List, ◌++◌, map, ℕ, ◌≤◌, length};
@@ -18,8 +19,10 @@ use limits::CLASS_COUNT;
 use tree::{ProofTree, ProofTreeNodeID};
 
 // The class of a node: 0 is first, 1 in the middle, 2 last.
+// A number, since the definition's classes are the numbers below `class_count`, which document 01 has searched one after the other.
+#[tactic(auto, unfolding(definition::specs::Queue::get_node_priority))]
 fn get_node_priority(formulas: &Formulas, tree: &ProofTree, x: ProofTreeNodeID) -> u16
-    ensures { (F : Setting) (rs : List Rec) (ns : List Node) → HasRecords rs formulas.now → formulas.now.count ≤ most_formulas → Laid ns tree.now
+    ensures { (F : Setting) (rs : List Rec) (ns : List Node) → HasRecords rs formulas.now → formulas.now.records.len ≤ most_formulas → Laid ns tree.now
         → result ≡ get_node_priority F rs ns x.0 }
 {
     formulas.priority_of(tree.formula_of(x))
@@ -27,7 +30,7 @@ fn get_node_priority(formulas: &Formulas, tree: &ProofTree, x: ProofTreeNodeID) 
 
 // The classes of the waiting nodes that have none yet.
 pub fn classify(formulas: &Formulas, tree: &ProofTree, waiting: &Numbers, classes: &mut Numbers)
-    ensures { (F : Setting) (rs : List Rec) (ns : List Node) (q more : List ℕ) → HasRecords rs formulas.now → formulas.now.count ≤ most_formulas → Laid ns tree.now
+    ensures { (F : Setting) (rs : List Rec) (ns : List Node) (q more : List ℕ) → HasRecords rs formulas.now → formulas.now.records.len ≤ most_formulas → Laid ns tree.now
         → HasList (q ++ more) waiting.now → waiting.now.len ≤ most_identifiers → HasList (map (get_node_priority F rs ns) q) classes.old
         → HasList (map (get_node_priority F rs ns) (q ++ more)) classes.new }
 {
@@ -38,6 +41,8 @@ pub fn classify(formulas: &Formulas, tree: &ProofTree, waiting: &Numbers, classe
 }
 
 // The position of the first waiting node of the most urgent class; their count where none waits.
+// Loops over classes and positions with a labelled break are the form that document 01 asks for.
+#[tactic(auto, using(crate::proofs::Taking::class_start))]
 fn first_urgent(classes: &Numbers) -> usize
     ensures { (F : Setting) (rs : List Rec) (ns : List Node) (q : List ℕ) → HasList (map (get_node_priority F rs ns) q) classes.now → classes.now.len ≤ most_identifiers → pop F rs ns q ≡ taken_at q result }
 {
@@ -66,8 +71,8 @@ pub fn pop(waiting: &mut Numbers, classes: &mut Numbers) -> Option<ProofTreeNode
         return None;
     }
     let id = ProofTreeNodeID(waiting.nth(at));
-    waiting.remove(at);
-    classes.remove(at);
+    waiting.remove(at, 0);
+    classes.remove(at, 0);
     Some(id)
 }
 

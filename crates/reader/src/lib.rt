@@ -13,13 +13,13 @@ use lexer::{Joint, ScanError, Word, Words, scan, word_at};
 use limits::{MOST_TEXT, RECORD_LENGTH, TEXT_TRAY_LENGTH, TextRecords};
 use refusal::{Reason, Refusal};
 
-// The level of a whole formula.
+// The level of a whole formula. Levels are numbers, since each calls the next lower one: the definition's too.
 const LOOSEST: u8 = 4;
 
 // Up to this level & and | group to the left, above it the arrows to the right.
 const LAST_LEFTWARD: u8 = 2;
 
-// The kind of an atom's record.
+// The kind of an atom's record; the others' are the discriminants of signs and joints, the words that stand for them.
 const ATOMIC: u8 = 0;
 
 // Why a text is not read.
@@ -76,6 +76,7 @@ impl Records {
     }
 
     // One record more, with mark 0.
+    #[tactic(auto, using(crate::proofs::Placing::puts))]
     fn push(&mut self, kind: u8, left: u16, right: u16)
         requires { self.old.count < most_text }
         ensures { Puts self.old.bytes self.new.bytes self.old.count kind left right × (self.new.count ≡ self.old.count + 1) }
@@ -114,6 +115,7 @@ fn record_bytes(kind: u8, left: u16, right: u16) -> [u8; RECORD_LENGTH]
 }
 
 // The level of a joint.
+#[tactic(auto, unfolding(grammar::specs::Tokens::level))]
 fn level_of(joint: Joint) -> u8
     ensures { result ≡ level (joint_of joint) }
 {
@@ -147,7 +149,8 @@ fn close(words: &Words, at: usize) -> Option<usize>
 }
 
 // Where a phrase of the level ends: & is level 1, | level 2, -> and => level 3, <-> level 4, and below them stand signs, brackets and atoms.
-// Thousands of levels may stand open at once: a number at most is handed back, which needs no memory.
+// Thousands of levels may stand open at once. An option of two numbers, the count beside the place, would go through memory in each of
+// their frames, and the deepest text would take more than a MiB of stack: so the count stands with the records.
 #[cycle(phrases)]
 fn phrase(words: &Words, at: usize, level: u8, records: &mut Records) -> Option<usize>
     requires { (1 ≤ level) × (level ≤ loosest) × (at ≤ most_text) × (records.old.count ≤ at) }
@@ -229,6 +232,7 @@ fn operand(words: &Words, at: usize, records: &mut Records) -> Option<usize>
 }
 
 // The lines of a text that was taken, into empty records.
+#[tactic(auto, using(crate::proofs::Sofar::reading_next))]
 fn lines(words: &Words, records: &mut Records)
     requires { (records.old.bytes ≡ replicate text_tray_length 0) × (records.old.count ≡ 0) }
     ensures { LinesRead words.now records.new.bytes records.new.count }

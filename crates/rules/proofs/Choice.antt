@@ -6,6 +6,7 @@ use lib.ListN.{length, get_or}
 use Rattle.definition.specs.Limits.{most_formulas}
 use Rattle.definition.specs.Records.{Kind, Atomic, Non, And, Or, Imply, BiImply, StrictImply, Possible, Necessary, Unknown, Comment, Rec, number_of, rec_at, formula_of}
 use Rattle.definition.specs.Rules.{expansion, expansion_by, non_expansion}
+use Rattle.formula.specs.declared.Record.{Record}
 use Rattle.formula.specs.Recorded.{Recorded}
 use Rattle.formula.proofs.Numbers.{formula_as}
 use Rattle.rules.specs.declared.LogicRule.{LogicRule}
@@ -46,7 +47,7 @@ module _ (rs : List Rec) (f l : ℕ) where
   choice Comment m = refl
 
 -- what `expand` reads
-pub chosen : {rs : List Rec} {n : ℕ} {a : List ℕ} {v : LogicRule} (f k l i at p q : ℕ) → Recorded rs n a → n ≤ most_formulas
+pub chosen : {rs : List Rec} {n : ℕ} {a : List Record} {v : LogicRule} (f k l i at p q : ℕ) → Recorded rs n a → n ≤ most_formulas
     → k ≡ number_of (formula_of rs f).kind → l ≡ (rec_at rs f).left → i ≡ number_of (rec_at rs l).kind
     → at ≡ ruled k f l → p ≡ (rec_at rs at).left → q ≡ (rec_at rs at).right → v ≡ logic_rule k i
     → expansion_of v (length rs) p q ≡ expansion rs f

@@ -5,10 +5,10 @@ use mathlib.Core.List.{List, [], ◌∷◌, ◌++◌, map, reverse, append_assoc
 use native.Mathlib.Omega.{arith}
 use lib.ListN.{length, length-append, length-map, length-reverse}
 use Rattle.definition.specs.Limits.{most_identifiers}
-use Rattle.definition.specs.Tree.{Node, new_node, node_at}
-use Rattle.definition.specs.Subtree.{Subtree, with_middle, with_left_right, flat, turned, numbered}
+use Rattle.definition.specs.Tree.{Node, new_node}
+use Rattle.definition.specs.Subtree.{with_middle, with_left_right, flat, turned, numbered}
 use Rattle.tree.specs.Chain.{chain_of, empty_chain}
-use Rattle.tree.specs.Lay.{Lays, Held, HasNodes, held, too_many}
+use Rattle.tree.specs.Lay.{HasNodes}
 use Rattle.tree.specs.declared.Chain.{Chain}
 use Rattle.tree.specs.declared.ProofTree.{ProofTree}
 use Rattle.subtree.specs.declared.ProofSubtree.{ProofSubtree}
@@ -16,7 +16,7 @@ use Rattle.subtree.specs.Subtree.{subtree_of}
 use Rattle.tree.specs.Sequence.{id_at}
 use Rattle.tree.proofs.Sequence.{id_fits}
 use Rattle.tree.proofs.Nodes.{held_ok, held_fits, held_as}
-use Rattle.rules.specs.Here.{with_nodes, in_middle, in_left_right, Here}
+use Rattle.rules.specs.Here.{in_middle, in_left_right, Here}
 
 -- what a function that makes the nodes xs does
 abbrev pub Adds : ProofTree → List Node → ProofTree → Type 0
@@ -28,25 +28,6 @@ adds_both t u v xs ys f g ns h = subst (λ (l : List Node). HasNodes l v) (appen
 -- a subtree is its three chains
 pub by_chains : (s : ProofSubtree) {l m r : Chain} → s.left ≡ l → s.middle ≡ m → s.right ≡ r → s ≡ (record { left = l; middle = m; right = r })
 by_chains s a b c = rw (← a, ← b, ← c) refl
-
--- ---- the world
-over : (ns : List Node) {m : ℕ} {b : List ℕ} (xs ys : List Node) → most_identifiers < length ns → Held (ns ++ xs) m b → Held (ns ++ ys) m b
-over ns xs ys h (held g e q) = absurd (omega (arith, length-append ns xs))
-over ns xs ys h (too_many g e) = too_many g (omega (arith, length-append ns ys))
-
--- the world is read off the nodes; where they were too many, it does not matter
-pub here_world : {ns : List Node} {n : ℕ} {a : List ℕ} {r : ProofSubtree} {t : ProofTree} (x v : ℕ) (fs : Subtree) → Held ns n a →
-    ((ms : List Node) → Lays ms a → v ≡ (node_at ms x).world) → Here ns x v fs r t → Here ns x (node_at ns x).world fs r t
-here_world {ns} {n} {a} {r} {t} x v fs (held h e q) f p = subst (λ (w : ℕ). Here ns x w fs r t) (f ns (record { fits = omega arith; laid = q })) p
-here_world {ns} {n} {a} {r} {t} x v fs (too_many h e) f p =
-    record {
-      nodes = over ns _ _ e p.nodes;
-      chains = λ g. absurd (long g);
-      below = λ g. absurd (long g);
-    }
-  where
-    long : length (with_nodes ns x (node_at ns x).world fs) ≤ most_identifiers → ⊥
-    long g = omega (arith, g, e, length-append ns (map (λ (f : ℕ). new_node x f (node_at ns x).world) (flat (turned fs))))
 
 -- ---- the chains: their identifiers were drawn, so they are known where all nodes fit
 module _ {ns : List Node} (t : ProofTree) (x w : ℕ) (has : HasNodes ns t) where

@@ -1,9 +1,9 @@
 -- What a rule by its name makes, and what a function that makes it leaves.
-use Rattle.std.specs.Prelude.{ℕ, ◌≤◌, ◌≡◌, List, ◌++◌}
+use Rattle.std.specs.Prelude.{ℕ, suc, ◌≤◌, ◌≡◌, List, [], ◌∷◌, ◌++◌}
 use Rattle.definition.specs.Limits.{most_formulas}
 use Rattle.definition.specs.Records as kind
 use Rattle.definition.specs.Records.{Rec, made}
-use Rattle.definition.specs.Rules.{Expansion, expansion_by, non_expansion}
+use Rattle.definition.specs.Rules.{Expansion, makes, down, expansion_by, non_expansion}
 use Rattle.formula.specs.Recorded.{HasRecords}
 use Rattle.formula.specs.declared.Formulas.{Formulas}
 use Rattle.rules.specs.declared.Consequence.{Consequence}
@@ -14,6 +14,10 @@ use Rattle.rules.specs.Consequences.{consequence_of}
 -- the rule of a said formula of a kind with the fields p and q; m is the number of the next record made. No rule but Non's reads an inner record
 abbrev pub said_expansion : kind.Kind → ℕ → ℕ → ℕ → Expansion
 said_expansion k m p q = expansion_by k m p q (made kind.Unknown 0 0)
+
+-- the rule of Non of a modal kind, by the other modal kind; p is what the denied formula names
+abbrev pub modal_expansion : kind.Kind → ℕ → ℕ → Expansion
+modal_expansion k m p = makes (made kind.Non p 0 ∷ made k m 0 ∷ []) (down (suc m ∷ []))
 
 -- a rule by its name; p and q are the fields of the formula or, under Non, of the formula that it denies
 abbrev pub expansion_of : LogicRule → ℕ → ℕ → ℕ → Expansion
@@ -37,4 +41,4 @@ expansion_of NonNecessary = non_expansion kind.Necessary
 -- the records and those that the rule makes are held; where they fit, the consequence is the rule
 pub record Expands (rs : List Rec) (e : Expansion) (r : Consequence) (f : Formulas) : Type 0 where
   pub records : HasRecords (rs ++ e.made) f
-  pub rule : f.count ≤ most_formulas → consequence_of r ≡ e.rule
+  pub rule : f.records.len ≤ most_formulas → consequence_of r ≡ e.rule

@@ -2,6 +2,7 @@
 #![tactic(auto)]
 
 ghost use Rattle.std.specs.Prelude.{◌≡◌, List, [], ◌∷◌, ◌++◌, ℕ, length};
+ghost use Rattle.formula.specs.Kinds.{kind_meant};
 ghost use Rattle.formula.specs.Recorded.{HasRecords};
 ghost use Rattle.definition.specs.Records as kind;
 ghost use Rattle.definition.specs.Records.{Rec};
@@ -12,10 +13,10 @@ ghost use Rattle.tree.specs.Lay.{HasNodes};
 ghost use Rattle.tree.specs.Sequence.{id_at};
 ghost use Rattle.rules.specs.Choice.{logic_rule, ruled};
 ghost use Rattle.rules.specs.Consequences.{consequence_of};
-ghost use Rattle.rules.specs.Expands.{said_expansion, expansion_of, Expands};
+ghost use Rattle.rules.specs.Expands.{said_expansion, modal_expansion, expansion_of, Expands};
 ghost use Rattle.rules.specs.Here.{here_of, in_middle, in_left_right, Here};
 
-use formula::{FormulaNumber, Formulas};
+use formula::{FormulaNumber, Formulas, Kind};
 use graph::PossibleWorld;
 use subtree::ProofSubtree;
 use tree::{Chain, ProofTree, ProofTreeNodeID};
@@ -53,6 +54,7 @@ pub enum Consequence {
     AsNecessary(FormulaNumber),
 }
 
+// A match on kind numbers, nested under Non, is the form that document 01 asks for.
 #[tactic(auto, unfolding(crate::specs::Choice::logic_rule))]
 fn rule_of(outer: u16, inner: u16) -> LogicRule
     ensures { result ≡ logic_rule outer inner }
@@ -91,81 +93,82 @@ fn ruled_formula(outer: u16, f: FormulaNumber, denied: FormulaNumber) -> Formula
     f
 }
 
+#[tactic(auto, unfolding(definition::specs::Rules::expansion_by))]
 fn imply(formulas: &mut Formulas, p: FormulaNumber, q: FormulaNumber) -> Consequence
     ensures { (rs : List Rec) → HasRecords rs formulas.old → Expands rs (said_expansion kind.Imply (length rs) p.0 q.0) result formulas.new }
 {
-    let non_p = formulas.non(p);
+    let non_p = formulas.make_unary(Kind::Non, p);
     Consequence::Split1(non_p, q)
 }
 
+#[tactic(auto, unfolding(definition::specs::Rules::expansion_by))]
 fn strict_imply(formulas: &mut Formulas, p: FormulaNumber, q: FormulaNumber) -> Consequence
     ensures { (rs : List Rec) → HasRecords rs formulas.old → Expands rs (said_expansion kind.StrictImply (length rs) p.0 q.0) result formulas.new }
 {
-    let imply_p_q = formulas.imply(p, q);
+    let imply_p_q = formulas.make_binary(Kind::Imply, p, q);
     Consequence::AsNecessary(imply_p_q)
 }
 
+#[tactic(auto, unfolding(definition::specs::Rules::non_expansion))]
 fn non_imply(formulas: &mut Formulas, p: FormulaNumber, q: FormulaNumber) -> Consequence
     ensures { (rs : List Rec) → HasRecords rs formulas.old → Expands rs (non_expansion kind.Imply (length rs) p.0 q.0) result formulas.new }
 {
-    let non_q = formulas.non(q);
+    let non_q = formulas.make_unary(Kind::Non, q);
     Consequence::Down2(p, non_q)
 }
 
+#[tactic(auto, unfolding(definition::specs::Rules::expansion_by))]
 fn bi_imply(formulas: &mut Formulas, p: FormulaNumber, q: FormulaNumber) -> Consequence
     ensures { (rs : List Rec) → HasRecords rs formulas.old → Expands rs (said_expansion kind.BiImply (length rs) p.0 q.0) result formulas.new }
 {
-    let non_q = formulas.non(q);
-    let non_p = formulas.non(p);
+    let non_q = formulas.make_unary(Kind::Non, q);
+    let non_p = formulas.make_unary(Kind::Non, p);
     Consequence::Split2(p, q, non_p, non_q)
 }
 
+#[tactic(auto, unfolding(definition::specs::Rules::non_expansion))]
 fn non_and(formulas: &mut Formulas, p: FormulaNumber, q: FormulaNumber) -> Consequence
     ensures { (rs : List Rec) → HasRecords rs formulas.old → Expands rs (non_expansion kind.And (length rs) p.0 q.0) result formulas.new }
 {
-    let non_p = formulas.non(p);
-    let non_q = formulas.non(q);
+    let non_p = formulas.make_unary(Kind::Non, p);
+    let non_q = formulas.make_unary(Kind::Non, q);
     Consequence::Split1(non_p, non_q)
 }
 
+#[tactic(auto, unfolding(definition::specs::Rules::non_expansion))]
 fn non_or(formulas: &mut Formulas, p: FormulaNumber, q: FormulaNumber) -> Consequence
     ensures { (rs : List Rec) → HasRecords rs formulas.old → Expands rs (non_expansion kind.Or (length rs) p.0 q.0) result formulas.new }
 {
-    let non_q = formulas.non(q);
-    let non_p = formulas.non(p);
+    let non_q = formulas.make_unary(Kind::Non, q);
+    let non_p = formulas.make_unary(Kind::Non, p);
     Consequence::Down2(non_p, non_q)
 }
 
+#[tactic(auto, unfolding(definition::specs::Rules::non_expansion))]
 fn non_bi_imply(formulas: &mut Formulas, p: FormulaNumber, q: FormulaNumber) -> Consequence
     ensures { (rs : List Rec) → HasRecords rs formulas.old → Expands rs (non_expansion kind.BiImply (length rs) p.0 q.0) result formulas.new }
 {
-    let non_q = formulas.non(q);
-    let non_p = formulas.non(p);
+    let non_q = formulas.make_unary(Kind::Non, q);
+    let non_p = formulas.make_unary(Kind::Non, p);
     Consequence::Split2(p, non_q, non_p, q)
 }
 
+#[tactic(auto, unfolding(definition::specs::Rules::non_expansion))]
 fn non_strict_imply(formulas: &mut Formulas, p: FormulaNumber, q: FormulaNumber) -> Consequence
     ensures { (rs : List Rec) → HasRecords rs formulas.old → Expands rs (non_expansion kind.StrictImply (length rs) p.0 q.0) result formulas.new }
 {
-    let imply_p_q = formulas.imply(p, q);
-    let non_imply_p_q = formulas.non(imply_p_q);
+    let imply_p_q = formulas.make_binary(Kind::Imply, p, q);
+    let non_imply_p_q = formulas.make_unary(Kind::Non, imply_p_q);
     Consequence::AsPossible(non_imply_p_q)
 }
 
-fn non_possible(formulas: &mut Formulas, p: FormulaNumber) -> Consequence
-    ensures { (rs : List Rec) (q : ℕ) → HasRecords rs formulas.old → Expands rs (non_expansion kind.Possible (length rs) p.0 q) result formulas.new }
+// Non of a modal kind: what it denies, denied, under the other kind.
+fn non_modal(formulas: &mut Formulas, other: Kind, p: FormulaNumber) -> Consequence
+    ensures { (rs : List Rec) → HasRecords rs formulas.old → Expands rs (modal_expansion (kind_meant other) (length rs) p.0) result formulas.new }
 {
-    let non_p = formulas.non(p);
-    let necessary_non_p = formulas.necessary(non_p);
-    Consequence::Down1(necessary_non_p)
-}
-
-fn non_necessary(formulas: &mut Formulas, p: FormulaNumber) -> Consequence
-    ensures { (rs : List Rec) (q : ℕ) → HasRecords rs formulas.old → Expands rs (non_expansion kind.Necessary (length rs) p.0 q) result formulas.new }
-{
-    let non_p = formulas.non(p);
-    let possible_non_p = formulas.possible(non_p);
-    Consequence::Down1(possible_non_p)
+    let non_p = formulas.make_unary(Kind::Non, p);
+    let other_non_p = formulas.make_unary(other, non_p);
+    Consequence::Down1(other_non_p)
 }
 
 // The records of a rule, and its consequence; p and q are the fields that the rule reads.
@@ -193,8 +196,8 @@ fn expand_by(
         LogicRule::NonImply => non_imply(formulas, p, q),
         LogicRule::NonBiImply => non_bi_imply(formulas, p, q),
         LogicRule::NonStrictImply => non_strict_imply(formulas, p, q),
-        LogicRule::NonPossible => non_possible(formulas, p),
-        LogicRule::NonNecessary => non_necessary(formulas, p),
+        LogicRule::NonPossible => non_modal(formulas, Kind::Necessary, p),
+        LogicRule::NonNecessary => non_modal(formulas, Kind::Possible, p),
     }
 }
 

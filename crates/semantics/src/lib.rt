@@ -19,8 +19,9 @@ pub enum Literal {
 }
 
 // The number of an atom.
+#[tactic(auto, unfolding(definition::specs::Contradiction::atom_of, definition::specs::Records::number_of))]
 fn atom_of(formulas: &Formulas, f: FormulaNumber) -> Option<Literal>
-    ensures { (rs : List Rec) → HasRecords rs formulas.now → formulas.now.count ≤ most_formulas → atoms_in result ≡ atom_of rs (rec_at rs f.0) }
+    ensures { (rs : List Rec) → HasRecords rs formulas.now → formulas.now.records.len ≤ most_formulas → atoms_in result ≡ atom_of rs (rec_at rs f.0) }
 {
     if formulas.kind_at(f) != Kind::Atomic as u16 {
         return None;
@@ -30,8 +31,9 @@ fn atom_of(formulas: &Formulas, f: FormulaNumber) -> Option<Literal>
 }
 
 // Of an atom its number, of a BiImply of two atoms both.
+#[tactic(auto, unfolding(definition::specs::Contradiction::atoms_of, definition::specs::Contradiction::atom_of, definition::specs::Records::number_of))]
 fn atoms_of(formulas: &Formulas, f: FormulaNumber) -> Option<Literal>
-    ensures { (rs : List Rec) → HasRecords rs formulas.now → formulas.now.count ≤ most_formulas → atoms_in result ≡ atoms_of rs (rec_at rs f.0) }
+    ensures { (rs : List Rec) → HasRecords rs formulas.now → formulas.now.records.len ≤ most_formulas → atoms_in result ≡ atoms_of rs (rec_at rs f.0) }
 {
     if formulas.kind_at(f) != Kind::BiImply as u16 {
         return atom_of(formulas, f);
@@ -51,7 +53,7 @@ fn atoms_of(formulas: &Formulas, f: FormulaNumber) -> Option<Literal>
 
 // What a formula says: an atom, a BiImply of two atoms, Non Non of an atom.
 fn said(formulas: &Formulas, f: FormulaNumber) -> Option<Literal>
-    ensures { (rs : List Rec) → HasRecords rs formulas.now → formulas.now.count ≤ most_formulas → atoms_in result ≡ said rs (formula_of rs f.0) }
+    ensures { (rs : List Rec) → HasRecords rs formulas.now → formulas.now.records.len ≤ most_formulas → atoms_in result ≡ said rs (formula_of rs f.0) }
 {
     if formulas.kind_at(f) != Kind::Non as u16 {
         return atoms_of(formulas, f);
@@ -65,7 +67,7 @@ fn said(formulas: &Formulas, f: FormulaNumber) -> Option<Literal>
 
 // What a formula denies: the atom, or the BiImply of two atoms, under its Non.
 fn denied(formulas: &Formulas, f: FormulaNumber) -> Option<Literal>
-    ensures { (rs : List Rec) → HasRecords rs formulas.now → formulas.now.count ≤ most_formulas → atoms_in result ≡ denied rs (formula_of rs f.0) }
+    ensures { (rs : List Rec) → HasRecords rs formulas.now → formulas.now.records.len ≤ most_formulas → atoms_in result ≡ denied rs (formula_of rs f.0) }
 {
     if formulas.kind_at(f) != Kind::Non as u16 {
         return None;
@@ -88,7 +90,7 @@ pub struct Claim {
 }
 
 pub fn claim_of(formulas: &Formulas, f: FormulaNumber) -> Claim
-    ensures { (rs : List Rec) → HasRecords rs formulas.now → formulas.now.count ≤ most_formulas → Claims rs (formula_of rs f.0) result }
+    ensures { (rs : List Rec) → HasRecords rs formulas.now → formulas.now.records.len ≤ most_formulas → Claims rs (formula_of rs f.0) result }
 {
     Claim {
         says: said(formulas, f),
@@ -104,8 +106,9 @@ pub fn is_no_literal(c: Claim) -> bool
 }
 
 // The formula of a claim and g contradict one another.
+#[tactic(auto, unfolding(definition::specs::Contradiction::are_formulas_contradictory))]
 pub fn contradicts(c: Claim, formulas: &Formulas, g: FormulaNumber) -> bool
-    ensures { (rs : List Rec) (p : Rec) → Claims rs p c → HasRecords rs formulas.now → formulas.now.count ≤ most_formulas → result ≡ are_formulas_contradictory rs p (formula_of rs g.0) }
+    ensures { (rs : List Rec) (p : Rec) → Claims rs p c → HasRecords rs formulas.now → formulas.now.records.len ≤ most_formulas → result ≡ are_formulas_contradictory rs p (formula_of rs g.0) }
 {
     if opposed(c.says, denied(formulas, g)) {
         return true;

@@ -14,6 +14,7 @@ use Rattle.definition.specs.Tree.{Node, node_at, new_node}
 use Rattle.definition.specs.Subtree.{copied}
 use Rattle.definition.proofs.Basics.Lists.{each_map, each_reverse, up_from_each}
 use Rattle.definition.proofs.Tree.Nodes.{node_append}
+use Rattle.tree.specs.declared.ProofTreeNode.{ProofTreeNode}
 use Rattle.tree.specs.Lay.{lay, Lays, Held, held, too_many}
 use Rattle.tree.specs.declared.Chain.{Chain}
 use Rattle.tree.specs.Chain.{chain_of, ChainBelow}
@@ -65,10 +66,10 @@ snoc_copy t ch k h =
     ∙ ap (λ (v : List ℕ). more t v) (sym (take-suc ch k 0 h))
     ∙ ap (λ (j : ℕ). more t (take j ch)) (sym (add-one k))
 
-pub copying_start : (t : List Node) (ch : List ℕ) {len : ℕ} {a : List ℕ} → Held t len a → Held (more t (take 0 ch)) len a
+pub copying_start : (t : List Node) (ch : List ℕ) {len : ℕ} {a : List ProofTreeNode} → Held t len a → Held (more t (take 0 ch)) len a
 copying_start t ch h = rw append-nil h
 
-pub copying_next : (t : List Node) (c : Chain) (k : ℕ) {m m' : ℕ} {a b : List ℕ} (x s f w : ℕ) → k < c.count → ChainBelow c (length t)
+pub copying_next : (t : List Node) (c : Chain) (k : ℕ) {m m' : ℕ} {a b : List ProofTreeNode} (x s f w : ℕ) → k < c.count → ChainBelow c (length t)
     → Held (more t (take k (chain_of c))) m a
     → (ChainBelow c most_identifiers → k < c.count → x ≡ get_or (chain_of c) k 0)
     → ((ns : List Node) → Lays ns a → s ≡ (node_at ns x).spawner)
@@ -103,7 +104,7 @@ copying_next t c k {m} {m'} {a} {b} x s f w h g p ex es ef ew new =
         ∙ ap (λ (v : ℕ). ms ++ (new_node (node_at t (get_or ch k 0)).spawner v w ∷ [])) (ef ms n ∙ ap (λ (y : Node). y.formula) o)
         ∙ ap (λ (v : ℕ). ms ++ (new_node (node_at t (get_or ch k 0)).spawner (node_at t (get_or ch k 0)).formula v ∷ [])) (ew ms n ∙ ap (λ (y : Node). y.world) o)
 
-pub copying_end : (t : List Node) (c : Chain) (k : ℕ) {m : ℕ} {a : List ℕ} → c.count ≤ k → Held (more t (take k (chain_of c))) m a → Held (more t (chain_of c)) m a
+pub copying_end : (t : List Node) (c : Chain) (k : ℕ) {m : ℕ} {a : List ProofTreeNode} → c.count ≤ k → Held (more t (take k (chain_of c))) m a → Held (more t (chain_of c)) m a
 copying_end t c k {m} {a} h p = subst (λ (l : List ℕ). Held (more t l) m a) (take_all k (chain_of c) (omega (arith, chain_length c))) p
 
 -- ---- the loop of `push_chain`

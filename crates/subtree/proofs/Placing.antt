@@ -8,15 +8,15 @@ use native.Mathlib.Nat.{pos_of_ne-zero}
 use lib.ListN.{length, get_or, drop, length-append, length-map, drop_of_length-le}
 use lib.Seq.{drop-cons}
 use Rattle.definition.specs.Limits.{most_identifiers}
-use Rattle.arrays.specs.Listed.{Listed, HasList, listed, too_long}
-use Rattle.arrays.specs.declared.Numbers.{Numbers}
-use Rattle.arrays.proofs.Listed.{listed_count}
+use Rattle.arrays.specs.Listed.{Numbers, Listed, HasList}
+use Rattle.arrays.proofs.Tabled.{tabled_count, tabled_many}
 use Rattle.definition.specs.Lists.{filter}
 use Rattle.definition.specs.Tree.{Node, link_chain, leaves}
 use Rattle.definition.specs.Subtree.{Subtree, flat, turned, numbered, copied, Placed, append_subtree_on_leaf, push_subtree, append_copies, append_on, takes, append_subtree}
 use Rattle.definition.specs.TreeShape.{Treed}
 use Rattle.definition.proofs.Tree.Nodes.{length_leaf, ext_copies, ext_subtree}
 use Rattle.definition.proofs.Basics.Identifiers.{flat_numbered, length_from}
+use Rattle.tree.specs.declared.ProofTreeNode.{ProofTreeNode}
 use Rattle.tree.specs.Lay.{lay, Laid, Held, HasNodes, too_many}
 use Rattle.tree.specs.declared.ProofTree.{ProofTree}
 use Rattle.tree.proofs.Nodes.{held_ok, held_lays, held_fits, held_same, held_long}
@@ -116,13 +116,13 @@ module _ (s : ProofSubtree) (ns : List Node) (q ls : List ℕ) {m : ℕ} {found 
       → Left (append_on ns q ls (subtree_of s)) t w
   unfolding append_on
   on_none {t} {w} z p k =
-      subst (λ (x : List ℕ). Left (append_on ns q x (subtree_of s)) t w) (sym (nil ls (listed_count l g ∙ z)))
+      subst (λ (x : List ℕ). Left (append_on ns q x (subtree_of s)) t w) (sym (nil ls (tabled_count l g ∙ z)))
       (record { nodes = p; queue = k })
 
   pub on_some : {t : ProofTree} {w : Numbers} (x : ℕ) → (m ≡ 0 → ⊥) → x ≡ get_or ls 0 0
       → Left (append_copies (append_subtree_on_leaf ns x (subtree_of s)) (push_subtree q (subtree_of s)) (drop 1 ls) (subtree_of s)) t w → Left (append_on ns q ls (subtree_of s)) t w
   unfolding append_on
-  on_some {t} {w} x z e = go ls (listed_count l g) e
+  on_some {t} {w} x z e = go ls (tabled_count l g) e
     where
       go : (xs : List ℕ) → length xs ≡ m → x ≡ get_or xs 0 0
           → Left (append_copies (append_subtree_on_leaf ns x (subtree_of s)) (push_subtree q (subtree_of s)) (drop 1 xs) (subtree_of s)) t w → Left (append_on ns q xs (subtree_of s)) t w
@@ -192,10 +192,6 @@ unfolding append_on
 on_many [] t q s h i j = absurd (omega arith)
 on_many (x ∷ ls) t q s h i j = omega (arith, length_leaf t x s, copies_many ls (append_subtree_on_leaf t x s) (push_subtree q s) s h)
 
-listed_many : {l : List ℕ} {m : ℕ} {a : List ℕ} → Listed l m a → most_identifiers < m → most_identifiers < length l
-listed_many (listed b e q) h = absurd (omega arith)
-listed_many (too_long b e) h = e
-
 -- what `takers` finds
 pub found_takers : (target : ℕ) (ns : List Node) (t : ProofTree) (none found : Numbers) → HasNodes ns t → t.len ≤ most_identifiers → (length ns ≤ most_identifiers → Treed ns) → HasList [] none
     → ((ms : List Node) → Treed ms → length ms ≡ t.len → Laid ms t → HasList [] none → HasList (filter (takes ms target) (leaves ms)) found)
@@ -207,7 +203,7 @@ pub subtree_full : (t : Subtree) (target : ℕ) (ns : List Node) (q : List ℕ) 
 subtree_full t target ns q h p = record { nodes = held_long (append_subtree ns q target t).nodes p h (ext_subtree ns q target t).longer; queue = λ g. absurd (omega arith) }
 
 -- what the chains of s give is what t gives
-pub subtree_as : (s : ProofSubtree) (t : Subtree) (target : ℕ) (ns : List Node) (q : List ℕ) {len : ℕ} {a : List ℕ} {u : ProofTree} {w : Numbers} → Held ns len a → len ≤ most_identifiers → (length ns ≤ most_identifiers → Chained s t (length ns))
+pub subtree_as : (s : ProofSubtree) (t : Subtree) (target : ℕ) (ns : List Node) (q : List ℕ) {len : ℕ} {a : List ProofTreeNode} {u : ProofTree} {w : Numbers} → Held ns len a → len ≤ most_identifiers → (length ns ≤ most_identifiers → Chained s t (length ns))
     → (Within s (length ns) → Left (append_subtree ns q target (subtree_of s)) u w) → Left (append_subtree ns q target t) u w
 subtree_as s t target ns q {u = u} {w} p h c f = let k = c (omega (arith, (held_ok p h).0, h)) in subst (λ (x : Subtree). Left (append_subtree ns q target x) u w) k.are (f k.within)
 
@@ -226,7 +222,7 @@ module _ (s : ProofSubtree) (target : ℕ) (ns : List Node) (q : List ℕ) where
         record {
           nodes =
               too_many (omega arith)
-              (on_many (filter (takes ns target) (leaves ns)) ns q (subtree_of s) z (omega (arith, size_of s, i.on_left, i.on_middle, i.on_right)) (listed_many l h));
+              (on_many (filter (takes ns target) (leaves ns)) ns q (subtree_of s) z (omega (arith, size_of s, i.on_left, i.on_middle, i.on_right)) (tabled_many l h));
           queue = λ g. absurd (omega arith);
         }
 

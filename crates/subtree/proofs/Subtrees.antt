@@ -10,7 +10,8 @@ use Rattle.definition.specs.Lists.{up_from, Each}
 use Rattle.definition.specs.Tree.{Node, Place, Left, Middle, Right, new_node, link_chain}
 use Rattle.definition.specs.Subtree.{Subtree, flat, turned, numbered, copied, with_middle, append_subtree_on_leaf, push_subtree}
 use Rattle.definition.proofs.Tree.Nodes.{length_chain, length_leaf, node_append}
-use Rattle.tree.specs.Lay.{place_code, Held, HasNodes}
+use Rattle.tree.specs.declared.ProofTreeNode.{ProofTreeNode}
+use Rattle.tree.specs.Lay.{Held, HasNodes}
 use Rattle.tree.specs.declared.Chain.{Chain}
 use Rattle.tree.specs.declared.ProofTree.{ProofTree}
 use Rattle.tree.specs.Chain.{chain_of, rising_chain, empty_chain, ChainBelow, Spans, DrawnFrom}
@@ -32,7 +33,7 @@ size_of s =
 pub within_more : (s : ProofSubtree) {m n : ℕ} → m ≤ n → Within s m → Within s n
 within_more s h w = record { on_left = omega (arith, w.on_left); on_middle = omega (arith, w.on_middle); on_right = omega (arith, w.on_right) }
 
-pub within_fits : (s : ProofSubtree) {ns : List Node} {len : ℕ} {a : List ℕ} → len ≤ most_identifiers → Held ns len a → Within s (length ns) → Within s most_identifiers
+pub within_fits : (s : ProofSubtree) {ns : List Node} {len : ℕ} {a : List ProofTreeNode} → len ≤ most_identifiers → Held ns len a → Within s (length ns) → Within s most_identifiers
 within_fits s h p w = within_more s (omega (arith, (held_ok p h).0)) w
 
 pub within_hung : (s : ProofSubtree) (ns : List Node) (y : ℕ) (t : Subtree) → Within s (length ns) → Within s (length (append_subtree_on_leaf ns y t))
@@ -51,10 +52,10 @@ more_more t xs ys e =
     ∙ append_assoc t (map (copied t) xs) (map (copied t) ys)
     ∙ ap (λ (v : List Node). t ++ v) (sym (map-append (copied t) xs ys))
 
-abbrev Copies : Chain → ℕ → List ℕ → ℕ → List ℕ → Type 0
+abbrev Copies : Chain → ℕ → List ProofTreeNode → ℕ → List ProofTreeNode → Type 0
 Copies c n a m b = (ms : List Node) → Held ms n a → ChainBelow c (length ms) → Held (ms ++ map (copied ms) (chain_of c)) m b
 
-pub copied_all : (s : ProofSubtree) (ns : List Node) {n₀ n₁ n₂ n₃ : ℕ} {a b c d : List ℕ} → Held ns n₀ a → Within s (length ns)
+pub copied_all : (s : ProofSubtree) (ns : List Node) {n₀ n₁ n₂ n₃ : ℕ} {a b c d : List ProofTreeNode} → Held ns n₀ a → Within s (length ns)
     → Copies s.left n₀ a n₁ b → Copies s.middle n₁ b n₂ c → Copies s.right n₂ c n₃ d → Held (more ns (flat (subtree_of s))) n₃ d
 unfolding flat subtree_of
 copied_all s ns p w f g h =
@@ -73,7 +74,7 @@ copied_all s ns p w f g h =
 
 -- ---- numbered anew
 -- a copy's chain, whose identifiers were drawn after n were issued
-module _ (ns : List Node) (c : Chain) {n m : ℕ} {a b : List ℕ} (r : Chain) (p : Held ns n a) (q : Held (more ns (chain_of c)) m b) (d : DrawnFrom n r m) (small : m ≤ most_identifiers) where
+module _ (ns : List Node) (c : Chain) {n m : ℕ} {a b : List ProofTreeNode} (r : Chain) (p : Held ns n a) (q : Held (more ns (chain_of c)) m b) (d : DrawnFrom n r m) (small : m ≤ most_identifiers) where
   copy_spans : Spans r n m
   copy_spans = d small
 
@@ -100,7 +101,7 @@ threes {l} {l'} {m} {m'} {r} {r'} e f g = ap (λ (v : List ℕ). three v m r) e 
 
 -- what `copy_chain` does
 abbrev CopiesTo : Chain → ProofTree → Chain → ProofTree → Type 0
-CopiesTo c t r u = DrawnFrom t.len r u.len × Copies c t.len t.cells u.len u.cells
+CopiesTo c t r u = DrawnFrom t.len r u.len × Copies c t.len t.nodes u.len u.nodes
 
 pub attached : (s : ProofSubtree) (ns : List Node) (t t₁ t₂ t₃ : ProofTree) (l m r : Chain) → HasNodes ns t → Within s (length ns)
     → CopiesTo s.left t l t₁ → CopiesTo s.middle t₁ m t₂ → CopiesTo s.right t₂ r t₃
@@ -145,19 +146,19 @@ unfolding subtree_of chain_of
 middle_only s start count l m r = rw (l, m, r) (refl, λ n h. record { on_left = omega arith; on_middle = h; on_right = omega arith })
 
 -- ---- linked below a leaf
-abbrev Links : Chain → ℕ → ℕ → ProofTree → ProofTree → Type 0
-Links c y code t u = (ms : List Node) (p : Place) → place_code p ≡ code → HasNodes ms t → (length ms ≤ most_identifiers → ChainBelow c (length ms)) → HasNodes (link_chain ms y p (chain_of c)) u
+abbrev Links : Chain → ℕ → Place → ProofTree → ProofTree → Type 0
+Links c y p t u = (ms : List Node) → HasNodes ms t → (length ms ≤ most_identifiers → ChainBelow c (length ms)) → HasNodes (link_chain ms y p (chain_of c)) u
 
 pub hung : (s : ProofSubtree) (ns : List Node) (y : ℕ) {t₀ t₁ t₂ t₃ : ProofTree} → HasNodes ns t₀ → (length ns ≤ most_identifiers → Within s (length ns))
-    → Links s.left y 1 t₀ t₁ → Links s.middle y 2 t₁ t₂ → Links s.right y 3 t₂ t₃ → HasNodes (append_subtree_on_leaf ns y (subtree_of s)) t₃
+    → Links s.left y Left t₀ t₁ → Links s.middle y Middle t₁ t₂ → Links s.right y Right t₂ t₃ → HasNodes (append_subtree_on_leaf ns y (subtree_of s)) t₃
 unfolding append_subtree_on_leaf subtree_of
 hung s ns y p w f g h =
     let t = link_chain ns y Left (chain_of s.left) in
     let u = link_chain t y Middle (chain_of s.middle) in
     let e = length_chain ns y Left (chain_of s.left) in
     let e' = length_chain t y Middle (chain_of s.middle) in
-    h u Right refl
-    (g t Middle refl (f ns Left refl p (λ i. (w i).on_left)) (λ i. omega (arith, e, (w (omega (arith, e, i))).on_middle)))
+    h u
+    (g t (f ns p (λ i. (w i).on_left)) (λ i. omega (arith, e, (w (omega (arith, e, i))).on_middle)))
     (λ i. omega (arith, e, e', (w (omega (arith, e, e', i))).on_right))
 
 -- ---- queued

@@ -6,7 +6,7 @@ use Rattle.definition.specs.Tree.{Node}
 use Rattle.definition.specs.Subtree.{Subtree, Placed, flat, numbered, copied}
 use Rattle.tree.specs.Lay.{HasNodes}
 use Rattle.tree.specs.declared.ProofTree.{ProofTree}
-use Rattle.arrays.specs.declared.Numbers.{Numbers}
+use Rattle.arrays.specs.Listed.{Numbers}
 use Rattle.tree.specs.Chain.{chain_of, ChainBelow}
 use Rattle.subtree.specs.declared.ProofSubtree.{ProofSubtree}
 

@@ -1,9 +1,8 @@
 // Subtrees: copied, appended below the leaves that take them, and queued.
 #![tactic(auto)]
 
-ghost use Rattle.std.specs.Prelude.{◌≡◌, List, [], ◌∷◌, ◌++◌, map, reverse, ℕ, ◌≤◌, ◌<◌, ◌+◌, ◌*◌, length, get_or, drop};
+ghost use Rattle.std.specs.Prelude.{◌≡◌, List, [], ◌∷◌, ◌++◌, map, reverse, ℕ, ◌≤◌, ◌+◌, length, drop};
 ghost use Rattle.definition.specs.Limits.{most_identifiers};
-ghost use Rattle.limits.specs.Arrays.{item_fields};
 ghost use Rattle.arrays.specs.Listed.{HasList};
 ghost use Rattle.definition.specs.Lists.{up_from};
 ghost use Rattle.definition.specs.Tree.{Node};
@@ -14,9 +13,9 @@ ghost use Rattle.tree.specs.Chain.{chain_of, empty_chain, ChainBelow, Spans, Dra
 ghost use Rattle.subtree.specs.Subtree.{subtree_of, Within, Chained, Attached, Left};
 ghost use Rattle.subtree.specs.Items.{Listing};
 
-use arrays::Numbers;
-use limits::{FULL, ITEM_CELLS, ITEM_FIELDS, MOST_IDENTIFIERS};
-use tree::{Chain, PLACE_LEFT, PLACE_MIDDLE, PLACE_RIGHT, ProofTree, ProofTreeNodeID};
+use arrays::{Numbers, Table};
+use limits::MOST_IDENTIFIERS;
+use tree::{Chain, Place, ProofTree, ProofTreeNodeID};
 
 #[derive(Clone, Copy)]
 pub struct ProofSubtree {
@@ -47,17 +46,6 @@ fn turned(c: Chain) -> Chain
         count: c.count,
         rising: !c.rising,
     }
-}
-
-// A middle chain of rising identifiers alone.
-fn with_middle_vertical_nodes(start: ProofTreeNodeID, count: u16) -> ProofSubtree
-    ensures { (subtree_of result ≡ with_middle (up_from count start.0)) × ((m : ℕ) → start.0 + count ≤ m → Within result m) }
-{
-    ProofSubtree::with_middle(Chain {
-        start,
-        count,
-        rising: true,
-    })
 }
 
 // How many nodes the subtree has.
@@ -101,9 +89,9 @@ fn append_subtree_on_leaf(tree: &mut ProofTree, leaf: ProofTreeNodeID, s: ProofS
     ensures { (tree.new.len ≡ tree.old.len)
         × ((ns : List Node) → HasNodes ns tree.old → (length ns ≤ most_identifiers → Within s (length ns)) → HasNodes (append_subtree_on_leaf ns leaf.0 (subtree_of s)) tree.new) }
 {
-    tree.link_chain(leaf, PLACE_LEFT, s.left);
-    tree.link_chain(leaf, PLACE_MIDDLE, s.middle);
-    tree.link_chain(leaf, PLACE_RIGHT, s.right);
+    tree.link_chain(leaf, Place::Left, s.left);
+    tree.link_chain(leaf, Place::Middle, s.middle);
+    tree.link_chain(leaf, Place::Right, s.right);
 }
 
 // The chain's identifiers, top first, at the end of a list.
@@ -179,7 +167,7 @@ pub fn append_subtree(
     if size(s) == 0 {
         return;
     }
-    let mut found = Numbers::new();
+    let mut found = Numbers::new(0);
     tree.takers(target, &mut found);
     if MOST_IDENTIFIERS < found.len {
         tree.fill_up();
@@ -188,11 +176,38 @@ pub fn append_subtree(
     append_on(tree, &found, s, waiting);
 }
 
-// Subtrees that are to be placed, a row of ITEM_FIELDS numbers each, and how many there are. A count above MOST_IDENTIFIERS says that there are too many, and nothing of the rows.
+// A chain of rising identifiers that is to be placed below a target, in the middle.
+#[derive(Clone, Copy, Debug, PartialEq, Eq)]
+pub struct TargetedChain {
+    pub target: ProofTreeNodeID,
+    pub start: ProofTreeNodeID,
+    pub count: u16,
+}
+
+impl TargetedChain {
+    // A chain without an identifier: it stands where there is none.
+    const BLANK: TargetedChain = TargetedChain {
+        target: ProofTreeNodeID(0),
+        start: ProofTreeNodeID(0),
+        count: 0,
+    };
+
+    // The chain as a subtree.
+    fn with_middle_vertical_nodes(self) -> ProofSubtree
+        ensures { (subtree_of result ≡ with_middle (up_from self.count self.start.0)) × ((m : ℕ) → self.start.0 + self.count ≤ m → Within result m) }
+    {
+        ProofSubtree::with_middle(Chain {
+            start: self.start,
+            count: self.count,
+            rising: true,
+        })
+    }
+}
+
+// Subtrees that are to be placed. More than MOST_IDENTIFIERS of them have more identifiers than there are.
 #[derive(Drop)]
 pub struct Items {
-    pub cells: [u16; ITEM_CELLS],
-    pub count: usize,
+    pub chains: Table<TargetedChain, MOST_IDENTIFIERS>,
 }
 
 impl Items {
@@ -203,22 +218,8 @@ impl Items {
         ensures { (m : ℕ) → HasItems [] result m }
     {
         Items {
-            cells: [0; ITEM_CELLS],
-            count: 0,
+            chains: Table::new(TargetedChain::BLANK),
         }
-    }
-
-    // Number j of row k.
-    fn field(&self, k: usize, j: usize) -> u16
-        ensures { k < most_identifiers → j < item_fields → result ≡ get_or self.now.cells (k * item_fields + j) 0 }
-    {
-        if MOST_IDENTIFIERS <= k {
-            return 0;
-        }
-        if ITEM_FIELDS <= j {
-            return 0;
-        }
-        self.cells[k * ITEM_FIELDS + j]
     }
 
     // One subtree more: a middle chain of identifiers above all that are there. None: nothing is stored. Too many where there is no room.
@@ -229,15 +230,11 @@ impl Items {
         if c.count == 0 {
             return;
         }
-        if MOST_IDENTIFIERS <= self.count {
-            self.count = FULL;
-            return;
-        }
-        let at = self.count * ITEM_FIELDS;
-        self.cells[at] = target.0;
-        self.cells[at + 1] = c.start.0;
-        self.cells[at + 2] = c.count;
-        self.count += 1;
+        self.chains.push(TargetedChain {
+            target,
+            start: c.start,
+            count: c.count,
+        });
     }
 }
 
@@ -250,10 +247,13 @@ pub fn append_logic_rule_result(tree: &mut ProofTree, items: &Items, waiting: &m
     if MOST_IDENTIFIERS < tree.len {
         return;
     }
-    for k in 0..items.count {
-        let target = ProofTreeNodeID(items.field(k, 0));
-        let start = ProofTreeNodeID(items.field(k, 1));
-        let s = with_middle_vertical_nodes(start, items.field(k, 2));
-        append_subtree(tree, target, s, waiting);
+    for k in 0..items.chains.len {
+        let item = items.chains.get_or(k, TargetedChain::BLANK);
+        append_subtree(
+            tree,
+            item.target,
+            item.with_middle_vertical_nodes(),
+            waiting,
+        );
     }
 }

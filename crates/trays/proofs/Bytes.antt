@@ -3,14 +3,13 @@ use Prim.Native.Nat.{ℕ, ◌+◌, ◌≤◌, ◌<◌}
 use mathlib.Core.Path.{◌≡◌, sym, ap, ◌∙◌, subst}
 use mathlib.Core.Bool.{Bool, true, false, cond}
 use Rattle.std.specs.Int.{from_bool}
-use mathlib.Core.List.{List, [], ◌∷◌, ◌++◌}
+use mathlib.Core.List.{List, [], ◌∷◌, ◌++◌, append_assoc, append-nil}
 use mathlib.Core.Logic.{◌⊎◌, inl, inr}
 use native.Mathlib.Omega.{arith}
 use native.Mathlib.Numerals.{add-one}
 use lib.ListN.{length, take}
 use lib.Seq.{take-suc}
 use Rattle.definition.specs.Limits.{most_identifiers}
-use Rattle.arrays.proofs.Rows.{rows_snoc}
 use Rattle.definition.specs.Lists.{Each, concat_map}
 use Rattle.definition.proofs.Call.Trays.{node_length_lem}
 use Rattle.definition.specs.Records.{Kind, Rec, Atomic, Non, And, Or, Imply, BiImply, StrictImply, Possible, Necessary, Unknown, Comment, number_of}
@@ -22,6 +21,11 @@ use Rattle.tree.specs.Sequence.{id_at}
 use Rattle.tree.proofs.Sequence.{id_fits}
 use Rattle.slices.specs.Written.{Written, Puts}
 use Rattle.slices.proofs.Writing.{written_none, puts_then, puts_as}
+
+-- the parts of a list with one element more
+rows_snoc : {A : Type 0} (row : A → List ℕ) (xs : List A) (x : A) → concat_map row (xs ++ (x ∷ [])) ≡ concat_map row xs ++ row x
+rows_snoc row [] x = append-nil (row x)
+rows_snoc row (y ∷ xs) x = ap (λ (l : List ℕ). row y ++ l) (rows_snoc row xs x) ∙ sym (append_assoc (row y) (concat_map row xs) (row x))
 
 pub number_low : (k : Kind) → number_of k < 256
 unfolding number_of
@@ -64,7 +68,7 @@ node_put ns {x} {i} {at} {next} {a} {b} e few worlds low f =
 pub puts_more : (ns : List Node) (i : ℕ) {at next last : ℕ} {a b c : List ℕ} → i < length ns → Puts (concat_map node_bytes (take i ns)) at a next b → Puts (node_bytes (node_at ns i)) next b last c
     → Puts (concat_map node_bytes (take (i + 1) ns)) at a last c
 puts_more ns i h p q =
-    puts_as (sym (ap (λ (k : ℕ). concat_map node_bytes (take k ns)) (add-one i) ∙ ap (concat_map node_bytes) (take-suc ns i blank h) ∙ rows_snoc node_bytes node_length_lem (take i ns) (node_at ns i)))
+    puts_as (sym (ap (λ (k : ℕ). concat_map node_bytes (take k ns)) (add-one i) ∙ ap (concat_map node_bytes) (take-suc ns i blank h) ∙ rows_snoc node_bytes (take i ns) (node_at ns i)))
     (puts_then p q)
 
 -- all bytes of a tray that was lent from its start, and is handed back as `given`

@@ -5,10 +5,10 @@ ghost use Rattle.std.specs.Prelude.{◌≡◌, Bool, cond, List, [], map, ◌⊎
 ghost use Rattle.definition.specs.Limits.{most_identifiers, most_formulas, graph_width, node_tray_length, formula_tray_length, edge_tray_length};
 ghost use Rattle.definition.specs.Lists.{Each, concat_map, padded};
 ghost use Rattle.definition.specs.Records.{Rec, rec_at};
-ghost use Rattle.definition.specs.Tree.{Node, Place, place_number, node_at};
+ghost use Rattle.definition.specs.Tree.{Node, node_at};
 ghost use Rattle.definition.specs.Graph as D;
 ghost use Rattle.definition.specs.Trays.{node_bytes, record_bytes, row_number, over};
-ghost use Rattle.tree.specs.Lay.{place_code, Laid};
+ghost use Rattle.tree.specs.Lay.{Laid};
 ghost use Rattle.formula.specs.Recorded.{HasRecords};
 ghost use Rattle.graph.specs.Drawn.{HasGraph};
 ghost use Rattle.slices.specs.Written.{Puts};
@@ -22,27 +22,20 @@ use limits::{
 use slices::{put, put_two, put_zeros};
 use tree::{ProofTree, ProofTreeNodeID, id_at};
 
-// The place in a node record; 4 if the node was never placed, which the tree says by a number that is no byte.
-fn place_byte(place: u16) -> u8
-    ensures { (p : Place) → place ≡ place_code p → result ≡ place_number p }
-{
-    u8::try_from(place).unwrap_or(4)
-}
-
 // The record of node x, 12 bytes.
 fn put_node(tray: &mut [u8], at: usize, tree: &ProofTree, x: ProofTreeNodeID) -> usize
     ensures { (ns : List Node) → Laid ns tree.now → (node_at ns x.0).world < 256
         → Puts (node_bytes (node_at ns x.0)) at tray.old result tray.new }
 {
     let parent = tree.parent_of(x);
-    let place = tree.place_of(x);
+    let place = tree.place_of(x).number();
     let [world, _] = tree.world_of(x).0.to_le_bytes();
     let formula = tree.formula_of(x);
     let spawner = tree.spawner_of(x);
     let contrarian = tree.contrarian_of(x);
     let contradictory = tree.is_contradictory(x);
     let a = put_two(tray, at, parent.0);
-    let b = put(tray, a, place_byte(place));
+    let b = put(tray, a, place);
     let c = put(tray, b, world);
     let d = put_two(tray, c, formula.0);
     let e = put_two(tray, d, spawner.0);
@@ -111,34 +104,33 @@ pub fn write_nodes(tray: &mut [u8], tree: &ProofTree)
 
 // The record of formula f, 6 bytes.
 fn put_formula(tray: &mut [u8], at: usize, formulas: &Formulas, f: FormulaNumber) -> usize
-    ensures { (rs : List Rec) → HasRecords rs formulas.now → formulas.now.count ≤ most_formulas → (rec_at rs f.0).mark < 256
+    ensures { (rs : List Rec) → HasRecords rs formulas.now → formulas.now.records.len ≤ most_formulas → (rec_at rs f.0).mark < 256
         → Puts (record_bytes (rec_at rs f.0)) at tray.old result tray.new }
 {
-    let [kind, _] = formulas.kind_at(f).to_le_bytes();
-    let [mark, _] = formulas.mark_at(f).to_le_bytes();
-    let left = formulas.left_at(f);
-    let right = formulas.right_at(f);
+    let record = formulas.record_at(f);
+    let [kind, _] = record.kind.to_le_bytes();
+    let [mark, _] = record.mark.to_le_bytes();
     let a = put(tray, at, kind);
     let b = put(tray, a, mark);
-    let c = put_two(tray, b, left.0);
-    put_two(tray, c, right.0)
+    let c = put_two(tray, b, record.left.0);
+    put_two(tray, c, record.right.0)
 }
 
 // The formula tray: the records, then zeros.
 // In a short tray, or of more records than the limit, nothing is written.
 pub fn write_formulas(tray: &mut [u8], formulas: &Formulas)
-    ensures { ((rs : List Rec) → HasRecords rs formulas.now → formulas.now.count ≤ most_formulas → Each (λ (r : Rec). r.mark < 256) rs
+    ensures { ((rs : List Rec) → HasRecords rs formulas.now → formulas.now.records.len ≤ most_formulas → Each (λ (r : Rec). r.mark < 256) rs
         → formula_tray_length ≤ length tray.old → tray.new ≡ over (padded formula_tray_length (concat_map record_bytes rs)) tray.old)
-        × ((length tray.old < formula_tray_length) ⊎ (most_formulas < formulas.now.count) → tray.new ≡ tray.old) }
+        × ((length tray.old < formula_tray_length) ⊎ (most_formulas < formulas.now.records.len) → tray.new ≡ tray.old) }
 {
     if tray.len() < FORMULA_TRAY_LENGTH {
         return;
     }
-    if MOST_FORMULAS < formulas.count {
+    if MOST_FORMULAS < formulas.records.len {
         return;
     }
     let mut at: usize = 0;
-    for i in 0..formulas.count {
+    for i in 0..formulas.records.len {
         at = put_formula(tray, at, formulas, FormulaNumber(i as u16));
     }
     put_zeros(tray, at, FORMULA_TRAY_LENGTH);

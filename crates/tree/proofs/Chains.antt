@@ -19,7 +19,8 @@ use Rattle.tree.specs.declared.Chain.{Chain}
 use Rattle.tree.specs.Chain.{chain_of, empty_chain, ChainBelow, Spans, DrawnFrom}
 use Rattle.tree.specs.Sequence.{Draws}
 use Rattle.tree.specs.declared.ProofTree.{ProofTree}
-use Rattle.tree.specs.Lay.{place_code, Held, HasNodes}
+use Rattle.tree.specs.declared.ProofTreeNode.{ProofTreeNode}
+use Rattle.tree.specs.Lay.{Held, HasNodes}
 use Rattle.tree.proofs.Sequence.{drawn_next}
 use Rattle.tree.proofs.Nodes.{held_ok, held_long, held_as}
 
@@ -80,12 +81,10 @@ drawn_more {c} {n} {m} {x} {lo} d draws before extends small =
     subst (Spans d lo) (ap (λ (k : ℕ). k + 1) next.id ∙ sym next.count)
     (extends lo (omega (arith, next.id, next.room)) (subst (Spans c lo) (sym next.id) (before (omega (arith, next.room)))))
 
--- ---- the loop of `link_chain`: the rest of the chain goes below `above`, its first at the place whose code is `at`
-pub record Linking (goal : List Node) (t : ProofTree) (above at : ℕ) (rest : List ℕ) : Type 0 where
+-- ---- the loop of `link_chain`: the rest of the chain goes below `above`, its first at a place
+pub record Linking (goal : List Node) (t : ProofTree) (above : ℕ) (place : Place) (rest : List ℕ) : Type 0 where
   pub nodes : List Node
-  pub place : Place
   pub has : HasNodes nodes t
-  pub code : place_code place ≡ at
   pub same : link_chain nodes above place rest ≡ goal
 
 chain_cons : (t : List Node) (y : ℕ) (p : Place) (x : ℕ) (xs : List ℕ) → link_chain t y p (x ∷ xs) ≡ link_chain (link t y p x) x Middle xs
@@ -96,37 +95,35 @@ chain_nil : (t : List Node) (y : ℕ) (p : Place) → link_chain t y p [] ≡ t
 unfolding link_chain
 chain_nil t y p = refl
 
-module _ {goal : List Node} {t : ProofTree} {above at : ℕ} (c : Chain) (k : ℕ) (l : Linking goal t above at (drop k (chain_of c))) where
+module _ {goal : List Node} {t : ProofTree} {above : ℕ} {place : Place} (c : Chain) (k : ℕ) (l : Linking goal t above place (drop k (chain_of c))) where
   pub linking_next : {u : ProofTree} (x : ℕ) → k < c.count → x ≡ get_or (chain_of c) k 0 →
-      ((ns : List Node) (p : Place) → place_code p ≡ at → HasNodes ns t → HasNodes (link ns above p x) u) →
-      Linking goal u x 2 (drop (k + 1) (chain_of c))
+      ((ns : List Node) → HasNodes ns t → HasNodes (link ns above place x) u) →
+      Linking goal u x Middle (drop (k + 1) (chain_of c))
   linking_next x h e f =
       let xs = chain_of c in
-      let ms = link l.nodes above l.place x in
+      let ms = link l.nodes above place x in
       record {
         nodes = ms;
-        place = Middle;
-        has = f l.nodes l.place l.code l.has;
-        code = refl;
+        has = f l.nodes l.has;
         same =
             ap (λ (j : ℕ). link_chain ms x Middle (drop j xs)) (add-one k)
-            ∙ sym (chain_cons l.nodes above l.place x (drop (suc k) xs))
-            ∙ ap (λ (z : ℕ). link_chain l.nodes above l.place (z ∷ drop (suc k) xs)) e
-            ∙ ap (link_chain l.nodes above l.place) (sym (drop-cons xs k 0 (omega (arith, chain_length c))))
+            ∙ sym (chain_cons l.nodes above place x (drop (suc k) xs))
+            ∙ ap (λ (z : ℕ). link_chain l.nodes above place (z ∷ drop (suc k) xs)) e
+            ∙ ap (link_chain l.nodes above place) (sym (drop-cons xs k 0 (omega (arith, chain_length c))))
             ∙ l.same;
       }
 
   pub linking_end : c.count ≤ k → HasNodes goal t
   linking_end h =
       held_as goal
-      (sym (chain_nil l.nodes above l.place)
-      ∙ ap (link_chain l.nodes above l.place) (sym (drop_of_length-le (chain_of c) {i = k} (omega (arith, chain_length c))))
+      (sym (chain_nil l.nodes above place)
+      ∙ ap (link_chain l.nodes above place) (sym (drop_of_length-le (chain_of c) {i = k} (omega (arith, chain_length c))))
       ∙ l.same)
       l.has
 
 -- a chain of nodes that fit
-pub below_fits : {ns : List Node} {len : ℕ} {a : List ℕ} (c : Chain) → len ≤ most_identifiers → Held ns len a → (length ns ≤ most_identifiers → ChainBelow c (length ns)) → ChainBelow c most_identifiers
+pub below_fits : {ns : List Node} {len : ℕ} {a : List ProofTreeNode} (c : Chain) → len ≤ most_identifiers → Held ns len a → (length ns ≤ most_identifiers → ChainBelow c (length ns)) → ChainBelow c most_identifiers
 below_fits c h p b = let e = (held_ok p h).0 in omega (arith, e, b (omega (arith, e, h)))
 
-pub chain_full : {ns : List Node} {len : ℕ} {a : List ℕ} (y : ℕ) (p : Place) (xs : List ℕ) → most_identifiers < len → Held ns len a → Held (link_chain ns y p xs) len a
+pub chain_full : {ns : List Node} {len : ℕ} {a : List ProofTreeNode} (y : ℕ) (p : Place) (xs : List ℕ) → most_identifiers < len → Held ns len a → Held (link_chain ns y p xs) len a
 chain_full {ns} y p xs h q = held_long (link_chain ns y p xs) q h (omega (arith, length_chain ns y p xs))

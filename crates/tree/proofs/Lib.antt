@@ -1,4 +1,4 @@
-pub mod TableRows
+pub mod Entries
 pub mod Nodes
 pub mod Chains
 pub mod Paths

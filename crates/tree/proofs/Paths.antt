@@ -1,24 +1,34 @@
 -- Paths, walked from the leaf up, and leaves, walked from a node down.
 use Prim.Native.Nat.{ℕ, zero, suc, ◌+◌, ◌-◌, ◌<◌, ◌≤◌}
 use mathlib.Core.Path.{◌≡◌, refl, sym, ap, ◌∙◌, subst}
-use mathlib.Core.Bool.{Bool, true, false, cond, ◌||◌}
+use mathlib.Core.Bool.{Bool, true, false, cond, not, ◌||◌, or-false}
 use mathlib.Core.List.{List, [], ◌∷◌, ◌++◌, append_assoc, append-nil}
 use native.Mathlib.Omega.{arith}
 use native.Mathlib.Numerals.{sub-one}
-use borrow.Author.Tests.{eqb-true}
-use lib.ListN.{length, get_or-eq_default}
+use borrow.Author.Tests.{eqb-true, ne_eqb}
+use lib.ListN.{length, length-append, get_or-eq_default}
 use Rattle.definition.specs.Limits.{most_identifiers}
 use Rattle.arrays.specs.Listed.{Listed}
 use Rattle.definition.specs.Lists.{any, filter}
 use Rattle.definition.specs.Records.{nobody, is_nobody}
-use Rattle.definition.specs.Tree.{Node, Place, Root, Left, Middle, Right, Unplaced, new_node, node_at, is_contradictory, is_leaf, only, leaves_below, upward, leaves, path}
+use Rattle.definition.specs.Tree.{Node, new_node, node_at, is_contradictory, is_leaf, only, leaves_below, upward, leaves, path}
 use Rattle.definition.specs.Subtree.{takes}
-use Rattle.definition.proofs.Basics.Lists.{true_false}
 use Rattle.definition.specs.TreeShape.{placed, Treed}
 use Rattle.definition.proofs.Paths.Takers.{closed}
+use Rattle.definition.proofs.Tree.Nodes.{node_append}
 use Rattle.definition.specs.Shortcuts.{open_below}
 use Rattle.definition.proofs.Engine.BelowTarget.{takers_out, takers_closed, takers_below}
-use Rattle.tree.specs.Lay.{place_code}
+use Rattle.tree.specs.declared.ProofTree.{ProofTree}
+use Rattle.tree.specs.Lay.{Laid}
+use Rattle.tree.specs.Outside.{leaves_outside}
+use Rattle.tree.specs.Stands.{Stands}
+
+-- ---- in the tree as it stood
+pub node_in : {t : List Node} {n : ℕ} {z : ProofTree} (d : Stands t n z) (x : ℕ) → x < n → false ≡ is_nobody x
+node_in {t} d x h = sym (ne_eqb x nobody (λ e. omega (arith, e, h, d.count, d.lays.fits, length-append t d.more)))
+
+pub parent_in : {t : List Node} {n : ℕ} {z : ProofTree} (d : Stands t n z) (x up : ℕ) → x < n → ((ns : List Node) → Laid ns z → up ≡ (node_at ns x).parent) → up ≡ (node_at t x).parent
+parent_in {t} d x up h e = e (t ++ d.more) d.lays ∙ ap (λ (n : Node). n.parent) (node_append t d.more x (omega (arith, d.count)))
 
 -- ---- from the leaf up
 pub up_zero : (t : List Node) (x : ℕ) → upward 0 t x ≡ []
@@ -64,6 +74,16 @@ module _ (t : List Node) (p : ℕ → Bool) {goal : Bool} (len k cur : ℕ) (inv
   pub climb_miss : v ≡ false → (up : ℕ) → up ≡ (node_at t cur).parent → any p (upward (len - (k + 1)) t up) ≡ goal
   climb_miss s up u = ap (λ (w : Bool). w || any p (upward (len - (k + 1)) t up)) (sym (sym q ∙ s)) ∙ climb_next t (any p) len k cur inv h e node up u
 
+-- a climb that met a number of no node of the tree
+module _ (t : List Node) (p : ℕ → Bool) {goal : Bool} (len k cur : ℕ) (inv : any p (upward (len - k) t cur) ≡ goal) (e : length t ≡ len) (h : k < len) (out : len ≤ cur) {b : Bool} (n : b ≡ is_nobody cur) where
+  pub climb_out_none : b ≡ true → not b ≡ goal
+  climb_out_none q = ap not q ∙ climb_none t (any p) len k cur inv n q
+
+  pub climb_out : b ≡ false → {v : Bool} → v ≡ p cur → v ≡ goal
+  climb_out q told =
+      told ∙ sym (or-false (p cur)) ∙ ap (λ (l : List ℕ). any p (cur ∷ l)) (sym (up_nobody t (len - (k + 1)) nobody refl))
+      ∙ climb_next t (any p) len k cur inv h n q nobody (sym (ap (λ (m : Node). m.parent) (get_or-eq_default t (new_node nobody nobody nobody) {n = cur} (omega (arith, e)))))
+
 -- what a climb of `path_is_contradictory` looks for
 abbrev pub closes : List Node → ℕ → Bool
 closes t x = is_contradictory (node_at t x)
@@ -93,93 +113,92 @@ nobody_leaf t x h e =
     let q = eqb-true x nobody e in
     ap (λ (n : Node). is_leaf n.children) (get_or-eq_default t (new_node nobody nobody nobody) {n = x} (omega (arith, q)))
 
--- A walk down: W gives the leaves at and below a node, left, then middle, then right, but none at or below a node that is shut.
-pub record Walks (t : List Node) (shut : ℕ → Bool) (W : ℕ → ℕ → List ℕ) : Type 0 where
-  pub nobody_below : (d x : ℕ) → is_nobody x ≡ true → W d x ≡ []
-  pub shut_below : (d x : ℕ) → is_nobody x ≡ false → shut x ≡ true → W d x ≡ []
-  pub at_end : (x : ℕ) → is_nobody x ≡ false → shut x ≡ false → W 0 x ≡ x ∷ []
-  pub at_node : (d x : ℕ) → is_nobody x ≡ false → shut x ≡ false → let c = (node_at t x).children in W (suc d) x ≡ cond (is_leaf c) (x ∷ []) (W d c.left ++ (W d c.middle ++ W d c.right))
+-- A walk down that leaves out some nodes.
+module _ (t : List Node) (p : ℕ → Bool) where
+  none_below : (d x : ℕ) → is_nobody x ≡ true → leaves_outside p d t x ≡ []
+  unfolding leaves_outside
+  none_below zero x e = rw e refl
+  none_below (suc d) x e = rw e refl
 
--- all the leaves
-pub leaves_walk : (t : List Node) → length t ≤ most_identifiers → Walks t (λ x. false) (λ d x. leaves_below d t x)
-unfolding leaves_below only
-leaves_walk t h = record { nobody_below = none; shut_below = λ d x e s. true_false (sym s); at_end = λ x e s. rw e refl; at_node = λ d x e s. rw e refl }
+  left_out : (d x : ℕ) → is_nobody x ≡ false → p x ≡ true → leaves_outside p d t x ≡ []
+  unfolding leaves_outside
+  left_out zero x e s = rw (e, s) refl
+  left_out (suc d) x e s = rw (e, s) refl
+
+  at_end : (x : ℕ) → is_nobody x ≡ false → p x ≡ false → leaves_outside p 0 t x ≡ x ∷ []
+  unfolding leaves_outside
+  at_end x e s = rw (e, s) refl
+
+  at_node : (d x : ℕ) → is_nobody x ≡ false → p x ≡ false → let c = (node_at t x).children in leaves_outside p (suc d) t x ≡ cond (is_leaf c) (x ∷ []) (leaves_outside p d t c.left ++ (leaves_outside p d t c.middle ++ leaves_outside p d t c.right))
+  unfolding leaves_outside
+  at_node d x e s = rw (e, s) refl
+
+-- none is left out
+all_at : (t : List Node) → length t ≤ most_identifiers → (x : ℕ) (further : List ℕ) → let c = (node_at t x).children in cond (is_nobody x) [] (cond (is_leaf c) (x ∷ []) further) ≡ cond (is_leaf c) (only x) further
+unfolding only
+all_at t h x further = go (is_nobody x) refl
   where
-    none : (d x : ℕ) → is_nobody x ≡ true → leaves_below d t x ≡ []
-    none zero x e = rw e refl
-    none (suc d) x e = rw (nobody_leaf t x h e, e) refl
+    go : (b : Bool) → is_nobody x ≡ b → let c = (node_at t x).children in cond (is_nobody x) [] (cond (is_leaf c) (x ∷ []) further) ≡ cond (is_leaf c) (cond (is_nobody x) [] (x ∷ [])) further
+    go true e = rw (nobody_leaf t x h e, e) refl
+    go false e = rw e refl
 
--- those below no contradictory node
-pub open_walk : (t : List Node) → Walks t (closes t) (λ d x. open_below d t x)
-unfolding open_below
-open_walk t = record { nobody_below = none; shut_below = shut; at_end = λ x e s. rw (e, s) refl; at_node = λ d x e s. rw (e, s) refl }
-  where
-    none : (d x : ℕ) → is_nobody x ≡ true → open_below d t x ≡ []
-    none zero x e = rw e refl
-    none (suc d) x e = rw e refl
+pub all_below : (t : List Node) → length t ≤ most_identifiers → (d x : ℕ) → leaves_outside (λ y. false) d t x ≡ leaves_below d t x
+unfolding leaves_outside leaves_below only
+all_below t h zero x = refl
+all_below t h (suc d) x =
+    let c = (node_at t x).children in
+    rw (all_below t h d c.left, all_below t h d c.middle, all_below t h d c.right) (all_at t h x (leaves_below d t c.left ++ (leaves_below d t c.middle ++ leaves_below d t c.right)))
 
-    shut : (d x : ℕ) → is_nobody x ≡ false → closes t x ≡ true → open_below d t x ≡ []
-    shut zero x e s = rw (e, s) refl
-    shut (suc d) x e s = rw (e, s) refl
+-- the contradictory nodes are left out
+pub open_is : (t : List Node) (d x : ℕ) → leaves_outside (closes t) d t x ≡ open_below d t x
+unfolding leaves_outside open_below
+open_is t zero x = refl
+open_is t (suc d) x = let c = (node_at t x).children in rw (open_is t d c.left, open_is t d c.middle, open_is t d c.right) refl
 
 -- what a walk has listed, turn by turn
-module _ {t : List Node} {shut : ℕ → Bool} {W : ℕ → ℕ → List ℕ} (walk : Walks t shut W) (d x : ℕ) (k : List ℕ) {b : Bool} (e : b ≡ is_nobody x) where
-  pub walk_none : {n : ℕ} {a : List ℕ} → b ≡ true → Listed k n a → Listed (k ++ W d x) n a
-  walk_none q = listed_more k (W d x) (walk.nobody_below d x (sym e ∙ q))
+module _ (t : List Node) (p : ℕ → Bool) (d x : ℕ) (k : List ℕ) {b : Bool} (e : b ≡ is_nobody x) where
+  pub walk_none : {n : ℕ} {a : List ℕ} → b ≡ true → Listed k n a → Listed (k ++ leaves_outside p d t x) n a
+  walk_none q = listed_more k (leaves_outside p d t x) (none_below t p d x (sym e ∙ q))
 
-  module _ (q : b ≡ false) {c : Bool} (f : c ≡ shut x) where
-    pub walk_shut : {n : ℕ} {a : List ℕ} → c ≡ true → Listed k n a → Listed (k ++ W d x) n a
-    walk_shut u = listed_more k (W d x) (walk.shut_below d x (sym e ∙ q) (sym f ∙ u))
+  module _ (q : b ≡ false) {c : Bool} (f : c ≡ p x) where
+    pub walk_shut : {n : ℕ} {a : List ℕ} → c ≡ true → Listed k n a → Listed (k ++ leaves_outside p d t x) n a
+    walk_shut u = listed_more k (leaves_outside p d t x) (left_out t p d x (sym e ∙ q) (sym f ∙ u))
 
     module _ (u : c ≡ false) where
-      ends : W 0 x ≡ x ∷ []
-      ends = walk.at_end x (sym e ∙ q) (sym f ∙ u)
+      ends : leaves_outside p 0 t x ≡ x ∷ []
+      ends = at_end t p x (sym e ∙ q) (sym f ∙ u)
 
-      pub walk_end : {n : ℕ} {a : List ℕ} → d ≡ 0 → Listed (k ++ (x ∷ [])) n a → Listed (k ++ W d x) n a
-      walk_end z = listed_as (k ++ W d x) (ap (λ (v : List ℕ). k ++ v) (sym (ap (λ (j : ℕ). W j x) z ∙ ends)))
+      pub walk_end : {n : ℕ} {a : List ℕ} → d ≡ 0 → Listed (k ++ (x ∷ [])) n a → Listed (k ++ leaves_outside p d t x) n a
+      walk_end z = listed_as (k ++ leaves_outside p d t x) (ap (λ (v : List ℕ). k ++ v) (sym (ap (λ (j : ℕ). leaves_outside p j t x) z ∙ ends)))
 
       module _ {v : Bool} (w : v ≡ is_leaf (node_at t x).children) where
-        pub walk_leaf : {n : ℕ} {a : List ℕ} → v ≡ true → Listed (k ++ (x ∷ [])) n a → Listed (k ++ W d x) n a
-        walk_leaf y = listed_as (k ++ W d x) (ap (λ (z : List ℕ). k ++ z) (sym (go d)))
+        pub walk_leaf : {n : ℕ} {a : List ℕ} → v ≡ true → Listed (k ++ (x ∷ [])) n a → Listed (k ++ leaves_outside p d t x) n a
+        walk_leaf y = listed_as (k ++ leaves_outside p d t x) (ap (λ (z : List ℕ). k ++ z) (sym (go d)))
           where
-            go : (j : ℕ) → W j x ≡ x ∷ []
+            go : (j : ℕ) → leaves_outside p j t x ≡ x ∷ []
             go zero = ends
-            go (suc j) = walk.at_node j x (sym e ∙ q) (sym f ∙ u) ∙ rw (← w, y) refl
+            go (suc j) = at_node t p j x (sym e ∙ q) (sym f ∙ u) ∙ rw (← w, y) refl
 
         -- its children, read one by one
-        pub walk_deep : {n : ℕ} {a : List ℕ} (l m r : ℕ) → l ≡ (node_at t x).children.left → m ≡ (node_at t x).children.middle → r ≡ (node_at t x).children.right → (d ≡ 0 → ⊥) → v ≡ false → Listed (((k ++ W (d - 1) l) ++ W (d - 1) m) ++ W (d - 1) r) n a → Listed (k ++ W d x) n a
-        walk_deep l m r el em er z y = listed_as (k ++ W d x) (three_appended k (W (d - 1) l) (W (d - 1) m) (W (d - 1) r) (W d x) (go d z))
+        pub walk_deep : {n : ℕ} {a : List ℕ} (l m r : ℕ) → l ≡ (node_at t x).children.left → m ≡ (node_at t x).children.middle → r ≡ (node_at t x).children.right → (d ≡ 0 → ⊥) → v ≡ false →
+            Listed (((k ++ leaves_outside p (d - 1) t l) ++ leaves_outside p (d - 1) t m) ++ leaves_outside p (d - 1) t r) n a → Listed (k ++ leaves_outside p d t x) n a
+        walk_deep l m r el em er z y =
+            listed_as (k ++ leaves_outside p d t x)
+            (three_appended k (leaves_outside p (d - 1) t l) (leaves_outside p (d - 1) t m) (leaves_outside p (d - 1) t r) (leaves_outside p d t x) (go d z))
           where
-            go : (j : ℕ) → (j ≡ 0 → ⊥) → W (j - 1) l ++ (W (j - 1) m ++ W (j - 1) r) ≡ W j x
+            go : (j : ℕ) → (j ≡ 0 → ⊥) → leaves_outside p (j - 1) t l ++ (leaves_outside p (j - 1) t m ++ leaves_outside p (j - 1) t r) ≡ leaves_outside p j t x
             go zero z = absurd (z refl)
-            go (suc j) z = rw sub-one (sym (walk.at_node j x (sym e ∙ q) (sym f ∙ u) ∙ rw (← w, y, el, em, er) refl))
+            go (suc j) z = rw sub-one (sym (at_node t p j x (sym e ∙ q) (sym f ∙ u) ∙ rw (← w, y, el, em, er) refl))
 
 -- ---- the leaves that take what goes below the target
--- no place is no place in the tree
-pub out_code : (p : Place) → place_code p ≡ 65535 → placed p ≡ false
-unfolding placed
-out_code Root e = absurd (omega (arith, e))
-out_code Left e = absurd (omega (arith, e))
-out_code Middle e = absurd (omega (arith, e))
-out_code Right e = absurd (omega (arith, e))
-out_code Unplaced e = refl
+module _ (t : List Node) (r : Treed t) (g : ℕ) {b : Bool} (e : b ≡ placed (node_at t g).place) where
+  pub takers_none : {n : ℕ} {a : List ℕ} → b ≡ false → Listed [] n a → Listed (filter (takes t g) (leaves t)) n a
+  takers_none u = listed_as (filter (takes t g) (leaves t)) (sym (takers_out t r g (sym e ∙ u)))
 
-pub in_code : (p : Place) → (place_code p ≡ 65535 → ⊥) → placed p ≡ true
-unfolding placed
-in_code Root e = refl
-in_code Left e = refl
-in_code Middle e = refl
-in_code Right e = refl
-in_code Unplaced e = absurd (e refl)
-
-module _ (t : List Node) (r : Treed t) (g : ℕ) {p : ℕ} (e : p ≡ place_code (node_at t g).place) where
-  pub takers_none : {n : ℕ} {a : List ℕ} → p ≡ 65535 → Listed [] n a → Listed (filter (takes t g) (leaves t)) n a
-  takers_none q = listed_as (filter (takes t g) (leaves t)) (sym (takers_out t r g (out_code (node_at t g).place (sym e ∙ q))))
-
-  module _ (q : p ≡ 65535 → ⊥) {c : Bool} (f : c ≡ closed t g) where
+  module _ (u : b ≡ true) {c : Bool} (f : c ≡ closed t g) where
     pub takers_shut : {n : ℕ} {a : List ℕ} → c ≡ true → Listed [] n a → Listed (filter (takes t g) (leaves t)) n a
-    takers_shut y = listed_as (filter (takes t g) (leaves t)) (sym (takers_closed t r g (in_code (node_at t g).place (λ d. q (e ∙ d))) (sym f ∙ y)))
+    takers_shut y = listed_as (filter (takes t g) (leaves t)) (sym (takers_closed t r g (sym e ∙ u) (sym f ∙ y)))
 
-    pub takers_walked : {n : ℕ} {a : List ℕ} → c ≡ false → (len : ℕ) → length t ≡ len → Listed (open_below len t g) n a → Listed (filter (takes t g) (leaves t)) n a
+    pub takers_walked : {n : ℕ} {a : List ℕ} → c ≡ false → (len : ℕ) → length t ≡ len → Listed (leaves_outside (closes t) len t g) n a → Listed (filter (takes t g) (leaves t)) n a
     takers_walked y len d =
-        listed_as (filter (takes t g) (leaves t)) (ap (λ (k : ℕ). open_below k t g) (sym d) ∙ sym (takers_below t r g (in_code (node_at t g).place (λ d. q (e ∙ d))) (sym f ∙ y)))
+        listed_as (filter (takes t g) (leaves t)) (open_is t len g ∙ ap (λ (k : ℕ). open_below k t g) (sym d) ∙ sym (takers_below t r g (sym e ∙ u) (sym f ∙ y)))

@@ -1,27 +1,27 @@
-// The nodes of the proof tree, nine numbers to a node; paths and their leaves.
+// The nodes of the proof tree; paths and their leaves.
 #![tactic(auto)]
 
-ghost use Rattle.std.specs.Prelude.{◌≡◌, cond, ◌⊎◌, List, [], ◌∷◌, ◌++◌, ℕ, ◌≤◌, ◌<◌, ◌+◌, leb, length, get_or, set, suc};
+ghost use Rattle.std.specs.Prelude.{◌≡◌, Bool, ◌⊎◌, List, [], ◌∷◌, ◌++◌, ℕ, ◌≤◌, ◌<◌, ◌+◌, leb, length, get_or, suc};
 ghost use Rattle.definition.specs.Limits.{most_identifiers};
 ghost use Rattle.arrays.specs.Listed.{HasList};
 ghost use Rattle.definition.specs.Lists.{any, filter};
 ghost use Rattle.definition.specs.Records.{nobody, is_nobody};
-ghost use Rattle.definition.specs.Tree.{Node, Place, node_at, new_node, marked_against, is_contradictory, change, link, link_chain, is_leaf, leaves_below, leaves, path};
+ghost use Rattle.definition.specs.Tree.{Node, node_at, new_node, marked_against, is_contradictory, change, placed_below, with_child, link, link_chain, is_leaf, leaves_below, leaves, path};
 ghost use Rattle.definition.specs.Subtree.{takes};
-ghost use Rattle.definition.specs.TreeShape.{Treed};
-ghost use Rattle.definition.specs.Shortcuts.{open_below};
+ghost use Rattle.definition.specs.TreeShape.{placed, Treed};
 ghost use Rattle.tree.specs.Sequence.{id_at, count_after};
 
 use arrays::Numbers;
 use formula::FormulaNumber;
 use graph::PossibleWorld;
-use limits::{FULL, MOST_IDENTIFIERS, NODE_CELLS, NODE_FIELDS};
+use limits::{FULL, MOST_IDENTIFIERS};
 
 #[derive(Clone, Copy, Debug, PartialEq, Eq)]
 pub struct ProofTreeNodeID(pub u16);
 
 impl ProofTreeNodeID {
     // No node: what a node that lacks a parent, a child, a spawner or a contrarian has there.
+    // A number and no Option: it is the definition's and the trays', and an Option would double an entry's field.
     pub const NONE: ProofTreeNodeID = ProofTreeNodeID(65535);
 
     // The root of the tree, the first that is issued.
@@ -145,61 +145,143 @@ impl Chain {
     }
 }
 
-// The numbers of a node's row.
-const PARENT: usize = 0;
+// Where a node stands: at the root, as a child of its parent, or not in the tree yet.
+#[derive(Clone, Copy, Debug, PartialEq, Eq)]
+pub enum Place {
+    Root,
+    Left,
+    Middle,
+    Right,
+    Unplaced,
+}
 
-const PLACE: usize = 1;
+impl Place {
+    ghost use Rattle.definition.specs.Tree.{place_number};
+    ghost use Rattle.tree.specs.Lay.{place_of};
 
-const WORLD: usize = 2;
+    // The number that the trays have.
+    pub fn number(self) -> u8
+        ensures { result ≡ place_number (place_of self) }
+    {
+        self as u8
+    }
+}
 
-const FORMULA: usize = 3;
+// A place as an entry stores it: a number that is 65535 where there is none. A Place has a small tag, and the blank entry, whose bytes
+// are to be alike (`ProofTreeNode::BLANK`), would have bytes that differ.
+#[derive(Clone, Copy, Debug, PartialEq, Eq)]
+struct StoredPlace(u16);
 
-const SPAWNER: usize = 4;
+impl From<Place> for StoredPlace {
+    ghost use Rattle.tree.specs.Lay.{place_of, place_code};
 
-const CONTRARIAN: usize = 5;
+    ghost from_gives = { λ place stored. stored.0 ≡ place_code (place_of place) };
 
-// The child at a place is number CHILD + place.
-const CHILD: usize = 5;
+    fn from(place: Place) -> StoredPlace {
+        match place {
+            Place::Unplaced => StoredPlace(65535),
+            other => StoredPlace(other as u16),
+        }
+    }
+}
 
-const LEFT: usize = 6;
+impl From<StoredPlace> for Place {
+    ghost use Rattle.definition.specs.Tree as D;
+    ghost use Rattle.tree.specs.Lay.{place_of, place_code};
 
-const MIDDLE: usize = 7;
+    ghost from_gives = { λ stored place. (p : D.Place) → stored.0 ≡ place_code p → place_of place ≡ p };
 
-const RIGHT: usize = 8;
+    fn from(stored: StoredPlace) -> Place {
+        match stored.0 {
+            0 => Place::Root,
+            1 => Place::Left,
+            2 => Place::Middle,
+            3 => Place::Right,
+            _ => Place::Unplaced,
+        }
+    }
+}
 
-// The places of a node, as they stand in its row.
-pub const PLACE_ROOT: u16 = 0;
+// A node, as its entry in the tree has it.
+#[derive(Clone, Copy, Debug, PartialEq, Eq)]
+pub struct ProofTreeNode {
+    parent: ProofTreeNodeID,
+    place: StoredPlace,
+    world: PossibleWorld,
+    formula: FormulaNumber,
+    spawner: ProofTreeNodeID,
+    contrarian: ProofTreeNodeID,
+    left: ProofTreeNodeID,
+    middle: ProofTreeNodeID,
+    right: ProofTreeNodeID,
+}
 
-pub const PLACE_LEFT: u16 = 1;
+impl ProofTreeNode {
+    ghost use Rattle.tree.specs.Lay.{place_of, stored};
 
-pub const PLACE_MIDDLE: u16 = 2;
+    // The entry that has no node. Its bytes are alike, so that one memset fills the array.
+    const BLANK: ProofTreeNode = ProofTreeNode {
+        parent: ProofTreeNodeID::NONE,
+        place: StoredPlace(65535),
+        world: PossibleWorld::NONE,
+        formula: FormulaNumber::COMMENT,
+        spawner: ProofTreeNodeID::NONE,
+        contrarian: ProofTreeNodeID::NONE,
+        left: ProofTreeNodeID::NONE,
+        middle: ProofTreeNodeID::NONE,
+        right: ProofTreeNodeID::NONE,
+    };
 
-pub const PLACE_RIGHT: u16 = 3;
+    // The node as it enters the tree below y, with no child yet.
+    fn placed_below(self, y: ProofTreeNodeID, place: Place) -> ProofTreeNode
+        ensures { (n : Node) → self ≡ stored n → result ≡ stored (placed_below y.0 (place_of place) n) }
+    {
+        ProofTreeNode {
+            parent: y,
+            place: place.into(),
+            left: ProofTreeNodeID::NONE,
+            middle: ProofTreeNodeID::NONE,
+            right: ProofTreeNodeID::NONE,
+            ..self
+        }
+    }
 
-// What stands in each place of a row that has no node.
-pub const NO_NUMBER: u16 = 65535;
+    // The node with the child x.
+    #[tactic(auto, unfolding(definition::specs::Tree::set_child))]
+    fn with_child(self, place: Place, x: ProofTreeNodeID) -> ProofTreeNode
+        ensures { (n : Node) → self ≡ stored n → result ≡ stored (with_child (place_of place) x.0 n) }
+    {
+        match place {
+            Place::Left => ProofTreeNode { left: x, ..self },
+            Place::Middle => ProofTreeNode { middle: x, ..self },
+            Place::Right => ProofTreeNode { right: x, ..self },
+            _ => self,
+        }
+    }
+}
 
-// Not in the tree.
-pub const PLACE_UNPLACED: u16 = NO_NUMBER;
-
-// The nodes, a row of NODE_FIELDS numbers each, and how many identifiers are issued. A count above MOST_IDENTIFIERS says that there are too many, and nothing of the rows.
+// The nodes by their identifiers, and how many of these are issued. A count above MOST_IDENTIFIERS says that there are too many, and nothing of the entries.
+// Numbered nodes in an array, and no nodes that own one another: the product has no heap, and the trays show the identifiers.
+// No `arrays::Table`, since an identifier is drawn from the sequence before its entry is filled.
 #[derive(Drop)]
 pub struct ProofTree {
-    pub cells: [u16; NODE_CELLS],
+    pub nodes: [ProofTreeNode; MOST_IDENTIFIERS],
     pub len: usize,
 }
 
 impl ProofTree {
-    ghost use Rattle.tree.specs.Lay.{place_code, row, Lays, Laid, HasNodes};
+    ghost use Rattle.tree.specs.Lay.{place_of, stored, Laid, HasNodes};
     ghost use Rattle.tree.specs.Chain.{chain_of, ChainBelow, DrawnFrom};
     ghost use Rattle.tree.specs.Sequence.{Draws};
+    ghost use Rattle.tree.specs.Stands.{Stands};
+    ghost use Rattle.tree.specs.Outside.{leaves_outside};
 
     // No node.
     pub fn new() -> Self
         ensures { HasNodes [] result }
     {
         ProofTree {
-            cells: [NO_NUMBER; NODE_CELLS],
+            nodes: [ProofTreeNode::BLANK; MOST_IDENTIFIERS],
             len: 0,
         }
     }
@@ -213,7 +295,7 @@ impl ProofTree {
 
     // The next identifier.
     fn new_node_id(&mut self) -> ProofTreeNodeID
-        ensures { Draws self.old.len self.new.len result.0 × (self.new.cells ≡ self.old.cells) }
+        ensures { Draws self.old.len self.new.len result.0 × (self.new.nodes ≡ self.old.nodes) }
     {
         let mut sequence = ProofTreeNodeIDSequence { issued: self.len };
         let id = sequence.next();
@@ -221,73 +303,76 @@ impl ProofTree {
         id
     }
 
-    // Number j of the row of node x; NO_NUMBER where there is none.
-    fn field(&self, x: ProofTreeNodeID, j: usize) -> u16
-        ensures { (ns : List Node) → Laid ns self.now → result ≡ get_or (row (node_at ns x.0)) j 65535 }
+    // The entry of node x; the blank one where there is none.
+    fn entry(&self, x: ProofTreeNodeID) -> ProofTreeNode
+        ensures { (ns : List Node) → Laid ns self.now → result ≡ stored (node_at ns x.0) }
     {
         let i = x.0 as usize;
         if MOST_IDENTIFIERS <= i {
-            return NO_NUMBER;
+            return ProofTreeNode::BLANK;
         }
-        if NODE_FIELDS <= j {
-            return NO_NUMBER;
-        }
-        self.cells[i * NODE_FIELDS + j]
+        self.nodes[i]
     }
 
     pub fn parent_of(&self, x: ProofTreeNodeID) -> ProofTreeNodeID
         ensures { (ns : List Node) → Laid ns self.now → result.0 ≡ (node_at ns x.0).parent }
     {
-        ProofTreeNodeID(self.field(x, PARENT))
+        self.entry(x).parent
     }
 
-    // A place; PLACE_UNPLACED if it is not in the tree.
-    pub fn place_of(&self, x: ProofTreeNodeID) -> u16
-        ensures { (ns : List Node) → Laid ns self.now → result ≡ place_code (node_at ns x.0).place }
+    pub fn place_of(&self, x: ProofTreeNodeID) -> Place
+        ensures { (ns : List Node) → Laid ns self.now → place_of result ≡ (node_at ns x.0).place }
     {
-        self.field(x, PLACE)
+        self.entry(x).place.into()
+    }
+
+    // Node x is in the tree.
+    pub fn is_placed(&self, x: ProofTreeNodeID) -> bool
+        ensures { (ns : List Node) → Laid ns self.now → result ≡ placed (node_at ns x.0).place }
+    {
+        self.place_of(x) != Place::Unplaced
     }
 
     pub fn world_of(&self, x: ProofTreeNodeID) -> PossibleWorld
         ensures { (ns : List Node) → Laid ns self.now → result.0 ≡ (node_at ns x.0).world }
     {
-        PossibleWorld(self.field(x, WORLD))
+        self.entry(x).world
     }
 
     pub fn formula_of(&self, x: ProofTreeNodeID) -> FormulaNumber
         ensures { (ns : List Node) → Laid ns self.now → result.0 ≡ (node_at ns x.0).formula }
     {
-        FormulaNumber(self.field(x, FORMULA))
+        self.entry(x).formula
     }
 
     pub fn spawner_of(&self, x: ProofTreeNodeID) -> ProofTreeNodeID
         ensures { (ns : List Node) → Laid ns self.now → result.0 ≡ (node_at ns x.0).spawner }
     {
-        ProofTreeNodeID(self.field(x, SPAWNER))
+        self.entry(x).spawner
     }
 
     pub fn contrarian_of(&self, x: ProofTreeNodeID) -> ProofTreeNodeID
         ensures { (ns : List Node) → Laid ns self.now → result.0 ≡ (node_at ns x.0).contrarian }
     {
-        ProofTreeNodeID(self.field(x, CONTRARIAN))
+        self.entry(x).contrarian
     }
 
     pub fn left_of(&self, x: ProofTreeNodeID) -> ProofTreeNodeID
         ensures { (ns : List Node) → Laid ns self.now → result.0 ≡ (node_at ns x.0).children.left }
     {
-        ProofTreeNodeID(self.field(x, LEFT))
+        self.entry(x).left
     }
 
     pub fn middle_of(&self, x: ProofTreeNodeID) -> ProofTreeNodeID
         ensures { (ns : List Node) → Laid ns self.now → result.0 ≡ (node_at ns x.0).children.middle }
     {
-        ProofTreeNodeID(self.field(x, MIDDLE))
+        self.entry(x).middle
     }
 
     pub fn right_of(&self, x: ProofTreeNodeID) -> ProofTreeNodeID
         ensures { (ns : List Node) → Laid ns self.now → result.0 ≡ (node_at ns x.0).children.right }
     {
-        ProofTreeNodeID(self.field(x, RIGHT))
+        self.entry(x).right
     }
 
     pub fn is_contradictory(&self, x: ProofTreeNodeID) -> bool
@@ -296,10 +381,11 @@ impl ProofTree {
         !self.contrarian_of(x).is_none()
     }
 
-    // Stores number j of the row of node x, where there is one.
-    fn put_field(&mut self, x: ProofTreeNodeID, j: usize, v: u16)
+    // Changes the entry of node x, where there is one.
+    fn change<F: FnOnce(ProofTreeNode) -> ProofTreeNode>(&mut self, x: ProofTreeNodeID, f: F)
+        requires { F.IsAlwaysCallable f }
         ensures { (self.new.len ≡ self.old.len)
-            × ((ns : List Node) (f : Node → Node) → ((n : Node) → row (f n) ≡ set (row n) j v) → HasNodes ns self.old → HasNodes (change ns x.0 f) self.new) }
+            × ((ns : List Node) (g : Node → Node) → ((n : Node) (r : ProofTreeNode) → F.post f (stored n) r → r ≡ stored (g n)) → HasNodes ns self.old → HasNodes (change ns x.0 g) self.new) }
     {
         let i = x.0 as usize;
         if MOST_IDENTIFIERS < self.len {
@@ -308,10 +394,7 @@ impl ProofTree {
         if self.len <= i {
             return;
         }
-        if NODE_FIELDS <= j {
-            return;
-        }
-        self.cells[i * NODE_FIELDS + j] = v;
+        self.nodes[i] = f(self.nodes[i]);
     }
 
     // One node more, not in the tree yet: its identifier; none where there is no room.
@@ -324,9 +407,15 @@ impl ProofTree {
         ensures { Draws self.old.len self.new.len result.0 × ((ns : List Node) → HasNodes ns self.old → HasNodes (ns ++ (new_node spawner.0 formula.0 world.0 ∷ [])) self.new) }
     {
         let x = self.new_node_id();
-        self.put_field(x, WORLD, world.0);
-        self.put_field(x, FORMULA, formula.0);
-        self.put_field(x, SPAWNER, spawner.0);
+        self.change(
+            x,
+            |_| ProofTreeNode {
+                world,
+                formula,
+                spawner,
+                ..ProofTreeNode::BLANK
+            },
+        );
         x
     }
 
@@ -345,24 +434,6 @@ impl ProofTree {
         chain.extended(id)
     }
 
-    // The same, if the node is to be made.
-    pub fn extend_if(
-        &mut self,
-        chain: Chain,
-        spawner: ProofTreeNodeID,
-        formula: FormulaNumber,
-        world: PossibleWorld,
-        keep: bool,
-    ) -> Chain
-        ensures { ((lo : ℕ) → DrawnFrom lo chain self.old.len → DrawnFrom lo result self.new.len)
-            × ((ns : List Node) → HasNodes ns self.old → HasNodes (ns ++ cond keep (new_node spawner.0 formula.0 world.0 ∷ []) []) self.new) }
-    {
-        if keep {
-            return self.extend(chain, spawner, formula, world);
-        }
-        chain
-    }
-
     // Marks node x against its contrarian.
     pub fn mark_child_node_as_contradictory(
         &mut self,
@@ -371,27 +442,20 @@ impl ProofTree {
     )
         ensures { (self.new.len ≡ self.old.len) × ((ns : List Node) → HasNodes ns self.old → HasNodes (change ns x.0 (marked_against contrarian.0)) self.new) }
     {
-        self.put_field(x, CONTRARIAN, contrarian.0);
+        self.change(x, |node| ProofTreeNode { contrarian, ..node });
     }
 
     // x becomes the child of y at a place.
-    fn link(&mut self, y: ProofTreeNodeID, place: u16, x: ProofTreeNodeID)
-        ensures { (self.new.len ≡ self.old.len) × ((ns : List Node) (p : Place) → place_code p ≡ place → HasNodes ns self.old → HasNodes (link ns y.0 p x.0) self.new) }
+    fn link(&mut self, y: ProofTreeNodeID, place: Place, x: ProofTreeNodeID)
+        ensures { (self.new.len ≡ self.old.len) × ((ns : List Node) → HasNodes ns self.old → HasNodes (link ns y.0 (place_of place) x.0) self.new) }
     {
-        self.put_field(x, PARENT, y.0);
-        self.put_field(x, PLACE, place);
-        self.put_field(x, LEFT, ProofTreeNodeID::NONE.0);
-        self.put_field(x, MIDDLE, ProofTreeNodeID::NONE.0);
-        self.put_field(x, RIGHT, ProofTreeNodeID::NONE.0);
-        if place == PLACE_ROOT {
-            return;
-        }
-        self.put_field(y, place as usize + CHILD, x.0);
+        self.change(x, |node| node.placed_below(y, place));
+        self.change(y, |node| node.with_child(place, x));
     }
 
     // The chain below y: the first at a place, each further one the middle child of the one before.
-    pub fn link_chain(&mut self, y: ProofTreeNodeID, place: u16, c: Chain)
-        ensures { (self.new.len ≡ self.old.len) × ((ns : List Node) (p : Place) → place_code p ≡ place → HasNodes ns self.old → (length ns ≤ most_identifiers → ChainBelow c (length ns)) → HasNodes (link_chain ns y.0 p (chain_of c)) self.new) }
+    pub fn link_chain(&mut self, y: ProofTreeNodeID, place: Place, c: Chain)
+        ensures { (self.new.len ≡ self.old.len) × ((ns : List Node) → HasNodes ns self.old → (length ns ≤ most_identifiers → ChainBelow c (length ns)) → HasNodes (link_chain ns y.0 (place_of place) (chain_of c)) self.new) }
     {
         if MOST_IDENTIFIERS < self.len {
             return;
@@ -402,25 +466,39 @@ impl ProofTree {
             let x = c.at(k);
             self.link(above, at, x);
             above = x;
-            at = PLACE_MIDDLE;
+            at = Place::Middle;
         }
+    }
+
+    // In the tree as it stood, when it had `count` nodes: a node of the leaf's path passes the test.
+    pub fn any_on_path<F: Fn(ProofTreeNodeID) -> bool>(
+        &self,
+        leaf: ProofTreeNodeID,
+        count: usize,
+        test: F,
+    ) -> bool
+        requires { F.IsAlwaysCallable test }
+        ensures { (t : List Node) (p : ℕ → Bool) → Stands t count self.now → ((x : ProofTreeNodeID) (b : Bool) → F.post test x b → b ≡ p x.0) → result ≡ any p (path t leaf.0) }
+    {
+        let mut cur = leaf;
+        for _ in 0..count {
+            if count <= cur.0 as usize {
+                // What is no node of that tree has no parent there.
+                return !cur.is_none() && test(cur);
+            }
+            if test(cur) {
+                return true;
+            }
+            cur = self.parent_of(cur);
+        }
+        false
     }
 
     // The path of a leaf holds a contradictory node.
     fn path_is_contradictory(&self, leaf: ProofTreeNodeID) -> bool
         ensures { (ns : List Node) → length ns ≡ self.now.len → Laid ns self.now → result ≡ any (λ x. is_contradictory (node_at ns x)) (path ns leaf.0) }
     {
-        let mut cur = leaf;
-        for _ in 0..self.len {
-            if cur.is_none() {
-                return false;
-            }
-            if self.is_contradictory(cur) {
-                return true;
-            }
-            cur = self.parent_of(cur);
-        }
-        false
+        self.any_on_path(leaf, self.len, |x| self.is_contradictory(x))
     }
 
     pub fn is_leaf(&self, x: ProofTreeNodeID) -> bool
@@ -429,36 +507,35 @@ impl ProofTree {
         self.left_of(x).is_none() && self.middle_of(x).is_none() && self.right_of(x).is_none()
     }
 
-    // The leaves at and below x, left, then middle, then right.
+    // The leaves at and below x, left, then middle, then right, but none at or below a node that is left out.
+    fn leaves_outside<F: Fn(&ProofTree, ProofTreeNodeID) -> bool>(
+        &self,
+        x: ProofTreeNodeID,
+        depth: usize,
+        out: &mut Numbers,
+        is_left_out: &F,
+    )
+        requires { F.IsAlwaysCallable is_left_out.now }
+        ensures { (ns : List Node) (l : List ℕ) (p : ℕ → Bool) → Laid ns self.now → ((stood : _) (y : ProofTreeNodeID) (b : Bool) → stood.now ≡ self.now → F.post is_left_out.now stood y b → b ≡ p y.0) → HasList l out.old
+            → HasList (l ++ leaves_outside p depth ns x.0) out.new }
+    {
+        if x.is_none() || is_left_out(self, x) {
+            return;
+        }
+        if depth == 0 || self.is_leaf(x) {
+            out.push(x.0);
+            return;
+        }
+        self.leaves_outside(self.left_of(x), depth - 1, out, is_left_out);
+        self.leaves_outside(self.middle_of(x), depth - 1, out, is_left_out);
+        self.leaves_outside(self.right_of(x), depth - 1, out, is_left_out);
+    }
+
+    // All leaves at and below x, in that order.
     pub fn leaves_below(&self, x: ProofTreeNodeID, depth: usize, out: &mut Numbers)
         ensures { (ns : List Node) (l : List ℕ) → Laid ns self.now → HasList l out.old → HasList (l ++ leaves_below depth ns x.0) out.new }
     {
-        if x.is_none() {
-            return;
-        }
-        if depth == 0 || self.is_leaf(x) {
-            out.push(x.0);
-            return;
-        }
-        self.leaves_below(self.left_of(x), depth - 1, out);
-        self.leaves_below(self.middle_of(x), depth - 1, out);
-        self.leaves_below(self.right_of(x), depth - 1, out);
-    }
-
-    // The leaves at and below x, in the same order, but none at or below a contradictory node.
-    fn takers_below(&self, x: ProofTreeNodeID, depth: usize, out: &mut Numbers)
-        ensures { (ns : List Node) (l : List ℕ) → Laid ns self.now → HasList l out.old → HasList (l ++ open_below depth ns x.0) out.new }
-    {
-        if x.is_none() || self.is_contradictory(x) {
-            return;
-        }
-        if depth == 0 || self.is_leaf(x) {
-            out.push(x.0);
-            return;
-        }
-        self.takers_below(self.left_of(x), depth - 1, out);
-        self.takers_below(self.middle_of(x), depth - 1, out);
-        self.takers_below(self.right_of(x), depth - 1, out);
+        self.leaves_outside(x, depth, out, &|_, _| false);
     }
 
     // The leaves whose paths hold the target and no contradictory node, into an empty list.
@@ -466,12 +543,12 @@ impl ProofTree {
         ensures { (ns : List Node) → Treed ns → length ns ≡ self.now.len → Laid ns self.now → HasList [] out.old
             → HasList (filter (takes ns target.0) (leaves ns)) out.new }
     {
-        if self.place_of(target) == PLACE_UNPLACED {
+        if !self.is_placed(target) {
             return;
         }
         if self.path_is_contradictory(target) {
             return;
         }
-        self.takers_below(target, self.len, out);
+        self.leaves_outside(target, self.len, out, &|tree, x| tree.is_contradictory(x));
     }
 }

@@ -4,6 +4,7 @@
 
 ghost use Rattle.std.specs.Prelude.{◌≤◌, ◌<◌, length, IfSome};
 
+use frames::read_full;
 use limits::{
     EDGE_TRAY_LENGTH, FORMULA_TRAY_LENGTH, MOST_TEXT, NODE_TRAY_LENGTH, RECORD_LENGTH,
     TEXT_TRAY_LENGTH, TextRecords,
@@ -11,7 +12,6 @@ use limits::{
 use prover::Verdict;
 use refusal::{Reason, Refusal};
 use std::fmt;
-use std::io::Read;
 use typed::prove_typed;
 
 // No text of the cases is longer.
@@ -127,22 +127,8 @@ fn show_all<P: Print>(rt: &P, input: &[u8]) {
     }
 }
 
-// Reads until `buf` is full, the input ends or a read fails; how many bytes are then at the start of `buf`.
-fn read_full<R: Read>(input: &mut R, buf: &mut [u8]) -> usize
-    ensures { result ≤ length buf.new }
-{
-    let mut done: usize = 0;
-    while done < buf.len() {
-        match input.read(&mut buf[done..]) {
-            Err(_) | Ok(0) => return done,
-            Ok(n) => done += n,
-        }
-    }
-    done
-}
-
 fn main(rt: HostRuntime) {
     let mut input = [0u8; 65536];
-    let n = read_full(&mut rt.stdin(), &mut input);
+    let (n, _) = read_full(&mut rt.stdin(), &mut input);
     show_all(&rt, &input[..n]);
 }

@@ -2,8 +2,6 @@
 use Rattle.std.proofs.Common.{◌≡◌, refl, sym, ◌∙◌, ap, true, false, List, [], ◌∷◌, ◌++◌, ℕ, zero, suc, ◌+◌, ◌-◌, ◌*◌, ◌/◌, ◌%◌, ◌^◌, ◌≤◌, ◌<◌, length, take, get_or, append_assoc, arith, length-append}
 use native.Mathlib.Numerals.{add-one}
 use native.Mathlib.Nat.{pow-le-pow_right}
-use lib.Dec.{eqb}
-use Rattle.slices.specs.Text.{decimal_of}
 use mathlib.Core.List.{append-nil}
 use lib.Seq.{slice, take-suc, take-append_seam}
 use Rattle.std.proofs.lemmas.List.{drop-take}
@@ -12,7 +10,7 @@ use Rattle.std.specs.List.{refill}
 use Rattle.io.specs.Digits.{hex_digit_ascii, last_digits, IsDigitCount}
 use Rattle.definition.specs.Lists.{concat_map}
 use Rattle.frames.proofs.Texts.{both}
-use Rattle.typed_text.specs.Diagnosis.{line_word, column_word, place, column, line_number, line_start, line_end, reason, heading, shown_from, shown_line, mark, diagnosis}
+use Rattle.typed_text.specs.Diagnosis.{line_start, line_end, heading, shown_from, shown_line, mark, diagnosis}
 
 each_append : (f : ℕ → List ℕ) (xs : List ℕ) (b : ℕ) → concat_map f (xs ++ (b ∷ [])) ≡ concat_map f xs ++ f b
 each_append f [] b = append-nil (f b)
@@ -47,15 +45,6 @@ pub byte_digits : (n k : ℕ) (s : List ℕ) → n < 256 → IsDigitCount 16 2 n
 byte_digits n k s h d e =
     e ∙ ap (λ (m : ℕ). last_digits 16 m n) (two_digits n k h d)
     ∙ ap (λ (m : ℕ). hex_digit_ascii m ∷ hex_digit_ascii (n % 16) ∷ []) (omega arith)
-
--- the first line
-pub heading_is : (text a b c d e now words : List ℕ) (at number col : ℕ) → number ≡ line_number text at → col ≡ column text at → words ≡ reason (eqb at (length text))
-    → a ≡ [] ++ line_word → b ≡ a ++ (decimal_of number ++ (44 ∷ [])) → c ≡ b ++ column_word → d ≡ c ++ (decimal_of col ++ (58 ∷ [])) → e ≡ d ++ words → now ≡ e ++ (10 ∷ [])
-    → now ≡ heading text at
-unfolding heading place
-heading_is text a b c d e now words at number col n m w p q r s t u =
-    rw (sym n, sym m, sym w)
-    (both [] d now _ _ (both [] c d _ _ (both [] b c _ _ (both [] a b _ _ p q) r) s) (both d e now _ _ t u))
 
 -- all three lines
 pub diagnosis_is : (text a b c d now : List ℕ) (at start end : ℕ) → start ≡ line_start text at → end ≡ line_end text at → a ≡ heading text at → b ≡ a ++ shown_from false text start end

@@ -9,7 +9,10 @@ ghost use Rattle.typed_text.specs.Diagnosis.{line_number, line_start, line_end, 
 ghost use Rattle.typed_text.specs.Showing.{ShownAs, offset_of, Runs};
 
 use arrayvec::ArrayVec;
-use frames::{Lines, RunError, Taken, append, append_number, lines, print, refusal_lines, report};
+use frames::{
+    Lines, RunError, Taken, append, append_number, lines, print, read_full, refusal_lines,
+    refuse_argument, report,
+};
 use limits::{MOST_TEXT, RECORD_LENGTH, TEXT_TRAY_LENGTH};
 use reader::{TextError, read_text};
 use refusal::Refusal;
@@ -41,6 +44,7 @@ pub struct Shown {
 }
 
 // The number of the line in which an offset stands.
+#[tactic(auto, using(crate::proofs::Places::number_is))]
 fn line_number(text: &[u8], at: usize) -> usize
     requires { at ≤ length text.now }
     ensures value { result ≡ line_number text.now at }
@@ -79,6 +83,7 @@ fn is_plain(b: u8) -> bool
 }
 
 // A byte as it is shown.
+#[tactic(auto, unfolding(crate::specs::Diagnosis::shown))]
 fn shown_byte(b: u8) -> Glyph
     ensures { result.items ≡ shown b }
 {
@@ -95,6 +100,7 @@ fn shown_byte(b: u8) -> Glyph
 }
 
 // Spaces in its place, one for each character.
+#[tactic(auto, using(crate::proofs::Marks::refilled), unfolding(crate::specs::Diagnosis::blank))]
 fn blank_byte(b: u8) -> Glyph
     ensures { result.items ≡ blank b }
 {
@@ -104,6 +110,7 @@ fn blank_byte(b: u8) -> Glyph
 }
 
 // Appends what is made of each byte.
+#[tactic(auto, using(crate::proofs::Marks::each_none, crate::proofs::Marks::each_next, crate::proofs::Marks::each_length))]
 fn append_each<F: Fn(u8) -> Glyph>(out: &mut Diagnosis, bytes: &[u8], glyph: F)
     requires callable { F.IsAlwaysCallable glyph }
     requires room { array_vec_len out.old + shown_length * length bytes.now ≤ diagnosis_length }
@@ -129,6 +136,7 @@ fn reason(short: bool) -> &'static [u8]
 }
 
 // The first line of a diagnosis, of a line that begins at `start`.
+#[tactic(auto, using(std::proofs::lemmas::Grind::common_steps), unfolding(crate::specs::Diagnosis::heading, crate::specs::Diagnosis::place))]
 fn heading(text: &[u8], at: usize, start: usize) -> Diagnosis
     requires at_in_bounds { (at ≤ length text.now) × (at ≤ most_text) × (start ≤ at) }
     requires start_value { start ≡ line_start text.now at }
@@ -200,21 +208,15 @@ pub fn show(rules: &[u8]) -> Shown
     }
 }
 
-// Reads the input until it ends or as many bytes are kept as have room.
+// Keeps an input in place of what was kept, read until it ends or as many bytes are kept as have room.
 fn read_all<R: Read>(input: &mut R, kept: &mut Kept) -> Result<(), RunError>
     ensures { IfErr result (λ error. error ≡ RunError.ReadFailed) }
 {
-    let mut part = [0u8; KEPT_LENGTH];
+    let mut bytes = [0u8; KEPT_LENGTH];
+    let (n, outcome) = read_full(input, &mut bytes);
     kept.clear();
-    while !kept.is_full() {
-        let room = kept.remaining_capacity();
-        match input.read(&mut part[..room]) {
-            Ok(0) => return Ok(()),
-            Ok(n) => append(kept, &part[..n]),
-            Err(_) => return Err(RunError::ReadFailed),
-        }
-    }
-    Ok(())
+    append(kept, &bytes[..n]);
+    outcome
 }
 
 // Writes where a text is garbled; an error is let go, since there is nowhere left to report it.
@@ -226,14 +228,19 @@ fn report_place<E: Write>(errors: &mut E, rules: &[u8], at: usize)
 
 // Reads the input and prints its eight lines; of a garbled text, on `errors`, also where it is.
 fn answer_input<R: Read, W: Write, E: Write>(
+    words: usize,
     input: &mut R,
     output: &mut W,
     errors: &mut E,
     kept: &mut Kept,
     text: &mut Lines,
 ) -> Result<(), RunError>
-    ensures { Runs kept.new.items text.new.items result }
+    ensures value { 1 < words → result ≡ Err (RunError.ArgumentGiven Taken.TypedRules) }
+    ensures kept_unchanged { 1 < words → kept.new ≡ kept.old }
+    ensures text_unchanged { 1 < words → text.new ≡ text.old }
+    ensures runs { words ≤ 1 → Runs kept.new.items text.new.items result }
 {
+    refuse_argument(words, Taken::TypedRules)?;
     read_all(input, kept)?;
     let shown = show(kept);
     if let Some(at) = shown.unreadable_at {
@@ -243,7 +250,9 @@ fn answer_input<R: Read, W: Write, E: Write>(
     print(output, text)
 }
 
-// The program, started with so many words, its own name among them: `input`, `output` and `errors`
+// The program, in the two lines of `frames::run`: with what is kept behind a closure, nothing would say that an argument leaves it
+// unchanged (tried).
+// Started with so many words, its own name among them: `input`, `output` and `errors`
 // are the standard ones. With a further word nothing is read or printed. An error is reported on
 // `errors`; after a read error nothing is printed on `output`.
 pub fn run<R: Read, W: Write, E: Write>(
@@ -259,11 +268,6 @@ pub fn run<R: Read, W: Write, E: Write>(
     ensures text_unchanged { 1 < words → text.new ≡ text.old }
     ensures runs { words ≤ 1 → Runs kept.new.items text.new.items result }
 {
-    let outcome = if 1 < words {
-        Err(RunError::ArgumentGiven(Taken::TypedRules))
-    } else {
-        answer_input(input, output, errors, kept, text)
-    };
-    report(errors, &outcome);
-    outcome
+    let outcome = answer_input(words, input, output, errors, kept, text);
+    report(errors, outcome)
 }

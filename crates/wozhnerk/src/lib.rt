@@ -50,7 +50,7 @@ fn verdict_word(verdict: Verdict) -> u64
     identifiers + formulas + steps + worlds + proved + late
 }
 
-// The answer in one number.
+// The answer in one number, which C reads by division.
 fn word(answer: Result<Verdict, Refusal>) -> u64
     ensures { worlds_of (said answer) ≤ 255 → read result ≡ said answer }
 {

@@ -9,4 +9,4 @@ use Rattle.branch.proofs.branch_nodes.Given as goal
 
 -- After i turns the nodes made so far, which are the chain's, and those that the records from i on still give are all nodes of the branch.
 abbrev pub invariant-loop-i : goal.invariant-loop-i
-invariant-loop-i l = (rs : List Rec) → HasRecords rs l.formulas → l.formulas.count ≤ most_formulas → HasNodes [] l.initial.tree → Beginning rs l.made l.tree l.i
+invariant-loop-i l = (rs : List Rec) → HasRecords rs l.formulas → l.formulas.records.len ≤ most_formulas → HasNodes [] l.initial.tree → Beginning rs l.made l.tree l.i

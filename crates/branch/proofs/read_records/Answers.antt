@@ -1,12 +1,16 @@
-use mathlib.Core.Path.{refl}
+use mathlib.Core.Path.{◌∙◌}
 use native.Mathlib.Omega.{arith}
-use Rattle.checks.specs.Checked.{record_of}
-use Rattle.branch.proofs.Reading.{reading_start, reading_next}
+use Rattle.checks.proofs.Chunks.{decode_next, decode_none}
+use Rattle.branch.proofs.Growth.{growth_as, growth_next, growth_end}
 use Rattle.branch.proofs.read_records.Goals as goal
 
-pub loop-i-init : goal.loop-i-init
-loop-i-init c = λ p. reading_start _ refl p
+pub loop-bytes-preserved : goal.loop-bytes-preserved
+loop-bytes-preserved c =
+    let (size, g) = c.loop-bytes.invariant in
+    let (same, (cut, six), k) = c.in-Some.ensures.steps in
+    (same ∙ size, λ p. growth_next _ c.push_input.ensures (growth_as _ (decode_next _ _ (six ∙ size) cut c.read_record.ensures) (g p)))
 
-pub loop-i-preserved : goal.loop-i-preserved
-unfolding record_of
-loop-i-preserved c = λ p. reading_next _ (c.loop-i.invariant p) _ c.loop-i-test.true (c.record_at-x.ensures.0 (omega arith)) c.push_input.ensures
+pub returns : goal.returns
+returns c =
+    let (size, g) = c.loop-bytes.invariant in
+    λ p. growth_end (growth_as _ (decode_none _ (omega (arith, c.in-None.ensures.steps, size))) (g p))

@@ -14,5 +14,5 @@ use Rattle.contradictions.proofs.find_above.Given as goal
 
 -- At every turn the pair sought is that of x and the first node from the root that contradicts it among what is left of the path, and where none is left the last one met.
 abbrev pub invariant-loop : goal.invariant-loop
-invariant-loop l = (rs : List Rec) (ns : List Node) → Claims rs (formula_of rs (node_at ns l.x.0).formula) l.c → HasRecords rs l.formulas → l.formulas.count ≤ most_formulas → length ns ≡ l.tree.len → Laid ns l.tree →
+invariant-loop l = (rs : List Rec) (ns : List Node) → Claims rs (formula_of rs (node_at ns l.x.0).formula) l.c → HasRecords rs l.formulas → l.formulas.records.len ≤ most_formulas → length ns ≡ l.tree.len → Laid ns l.tree →
     (l.world.0 ≡ (node_at ns l.x.0).world) × Seeking rs ns l.x.0 l.tree.len l.cur.0 (found l.last) l.counter

@@ -1,6 +1,6 @@
 use Rattle.std.proofs.Common.{rules, subst, ◌≡◌, ◌+◌, ◌*◌, ◌-◌, ℕ, drop, get_or}
 use Rattle.grammar.specs.Lexing.{value_from, value}
-use Rattle.lexer.proofs.Bytes.{more, all_counted}
+use Rattle.lexer.proofs.Bytes.{more}
 use Rattle.lexer.proofs.number.Goals as goal
 
 pub returns-in_err-checked_mul : goal.returns-in_err-checked_mul
@@ -14,8 +14,3 @@ loop-digit-preserved c =
     let m = more c.args.digits.now c.loop-digit.digit-index c.loop-digit.number c.loop-digit-test.true c.loop-digit.invariant in
     let e : 10 * c.loop-digit.number + (get_or c.args.digits.now c.loop-digit.digit-index 0 - 48) ≡ c.in_ok-number.number = search rules in
     (search rules, m.digits, subst (λ (n : ℕ). value_from n (drop (c.loop-digit.digit-index + 1) c.args.digits.now) ≡ value c.args.digits.now) e m.goes)
-
-pub returns : goal.returns
-returns c =
-    let e = all_counted c.args.digits.now c.loop-digit.digit-index c.loop-digit.number (search rules) c.loop-digit.invariant.2 in
-    search rules

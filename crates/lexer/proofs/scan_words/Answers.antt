@@ -1,15 +1,9 @@
 use Rattle.std.proofs.Common.{rules}
-use Rattle.lexer.proofs.Scanning.{start, next, refused, short, whole, unreadable_at}
+use Rattle.lexer.proofs.Scanning.{refused, short, whole, unreadable_at}
 use Rattle.lexer.proofs.scan_words.Goals as goal
-
-pub loop-next-init : goal.loop-next-init
-loop-next-init c = start c.args.text.now c.args.words.now
 
 pub returns-in_default : goal.returns-in_default
 returns-in_default c = unreadable_at _ c.args.words.now c.loop-next.words _ c.unreadable.result c.unreadable.ensures c.requires (refused c.loop-next.invariant c.next_token-next.ensures.1 (search rules) (search rules))
-
-pub loop-next-preserved : goal.loop-next-preserved
-loop-next-preserved c = next c.loop-next.invariant c.in-Some.later c.next_token-next.ensures.1 (search rules) (search rules) c.requires
 
 pub returns-in-Line : goal.returns-in-Line
 returns-in-Line c = (c.requires, whole c.loop-next.invariant c.next_token-next.ensures.1 (search rules) (search rules))

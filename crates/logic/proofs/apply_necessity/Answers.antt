@@ -1,12 +1,11 @@
-use Prim.Native.Nat.{ℕ, ◌+◌, ◌<◌, ◌≤◌}
+use Prim.Native.Nat.{◌+◌, ◌<◌, ◌≤◌}
 use mathlib.Core.Path.{◌≡◌, sym}
 use mathlib.Core.List.{[], ◌∷◌, ◌++◌, append-nil}
 use mathlib.Core.Option.{none}
 use native.Mathlib.Omega.{arith}
-use lib.ListN.{length-replicate}
 use Rattle.definition.specs.Limits.{most_identifiers}
 use Rattle.tree.proofs.Nodes.{held_as}
-use Rattle.modality.specs.Stands.{Stands}
+use Rattle.tree.specs.Stands.{Stands}
 use Rattle.logic.specs.Applied.{necessity_of}
 use Rattle.logic.proofs.Reapply.{stands_now, paths_few, paths_seen}
 use Rattle.logic.proofs.Again.{blank}
@@ -29,10 +28,10 @@ returns c = λ s recs q b.
     let st = c.store_necessity.ensures s b.treed b.count laid b.necessities b.room in
     let top : 0 + c.args.tableau.now.necessities.count + 1 ≡ c.store_necessity.new.necessities.count = omega (arith, st.counted, b.necessities.counted) in
     let row = st.stored blank 0 _ top in
-    let th = c.leaves_through.ensures t b.treed z c.new-below.ensures in
-    let on = through_own s x f b.treed (c.leaves_of.ensures t n _ [] z (c.leaf_row_at-row.ensures n row) th (through_fits s x f b.treed b.fits th).0 c.new-on.ensures) in
+    let th = c.leaves_through.ensures t b.treed z (c.new-below.ensures (omega arith)) in
+    let on = through_own s x f b.treed (c.leaves_of.ensures t n _ [] z (c.at-row.ensures n row).leaves th (through_fits s x f b.treed b.fits th).0 (c.new-on.ensures (omega arith))) in
     let few = paths_few t b.treed n z on in
-    let seen = c.worlds_on_paths.ensures.0 t _ z on few (paths_seen (λ y. y < most_identifiers) t n (leaves_low t b.treed b.count fits)) (length-replicate {A = ℕ} most_identifiers 0) in
+    let seen = c.worlds_on_paths.ensures.0 t _ z on few (paths_seen (λ y. y < most_identifiers) t n (leaves_low t b.treed b.count fits)) c.new-seen.ensures in
     let w = c.worlds_to_visit-fresh.ensures _ n row drawn in
     let h = held_as (t ++ []) (sym (append-nil t)) (before_held b) in
     let r = c.reapply_necessity.ensures t [] _ none (n ∷ s.necessities) blank [] 0 st top w on few seen h (λ _. listing_start c.new-items.ensures _) in

@@ -1,8 +1,5 @@
-use Prim.Native.Nat.{ℕ}
 use mathlib.Core.Path.{refl}
 use mathlib.Core.List.{[]}
-use lib.ListN.{length-replicate}
-use Rattle.definition.specs.Limits.{most_identifiers}
 use Rattle.logic.proofs.Forked.{known_few, forked_at_lem, forked_drawn, forked_held, forked_seen, listing_start, before_held, before_laid, possibility_after}
 use Rattle.setting.specs.Asked.{asked}
 use Rattle.logic.proofs.apply_possibility.Goals as goal
@@ -21,5 +18,5 @@ returns c = λ s recs q b.
     let drawn = forked_drawn F s x recs f q u (c.fork_world.ensures.0 _ few known) in
     let two = forked_held F s x recs f q v (c.fork_nodes-id.ensures.1 t (before_held b)) in
     let r = c.reapply_necessity_after_possibility.ensures t _ _ s.necessities [] _ b.necessities refl drawn b.count b.treed b.spawned
-    (λ some. forked_seen F s x recs f q _ v (c.worlds_at_fork.ensures t b.treed b.count laid (length-replicate {A = ℕ} most_identifiers 0) some)) two (λ _. listing_start c.new-items.ensures _) in
+    (λ some. forked_seen F s x recs f q _ v (c.worlds_at_fork.ensures t b.treed b.count laid c.new-seen.ensures some)) two (λ _. listing_start c.new-items.ensures _) in
     possibility_after F s x recs f q b.count r.0 r.1 drawn b.waiting b.treed c.fork_nodes-id.ensures.0 c.place_fork.ensures

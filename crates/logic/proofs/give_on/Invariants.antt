@@ -20,4 +20,4 @@ abbrev pub invariant-loop-j : goal.invariant-loop-j
 invariant-loop-j l =
     (t more : List Node) (fk : Option Fork) (n : Necessity) (ls : List ℕ) (rs : List Item) → n.spawner ≡ l.spawner.0 → n.formula ≡ l.formula.0 →
     HasList ls l.on → l.on.len ≤ most_identifiers → Each (Seen t fk l.seen) ls → HasNodes (t ++ more) l.fn.tree → (l.fn.tree.len ≤ most_identifiers → Listing rs [] l.fn.items l.fn.tree.len) →
-    Giving t fk n (worlds_in l.worlds) (drop l.j ls) ((t ++ more) ++ (give_on t fk n (worlds_in l.worlds) (length (t ++ more)) ls).nodes) rs (give_on t fk n (worlds_in l.worlds) (length (t ++ more)) ls).subtrees l.tree l.items
+    Giving t fk n (worlds_in l.worlds.0) (drop l.j ls) ((t ++ more) ++ (give_on t fk n (worlds_in l.worlds.0) (length (t ++ more)) ls).nodes) rs (give_on t fk n (worlds_in l.worlds.0) (length (t ++ more)) ls).subtrees l.tree l.items

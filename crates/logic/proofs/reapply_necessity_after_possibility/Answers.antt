@@ -30,4 +30,4 @@ loop-k-preserved c = λ t more g ns rs fk s fe d b tree at seen h list.
 pub returns : goal.returns
 returns c = λ t more g ns rs fk s fe d b tree at seen h list.
     let e = again_end t g fk (c.loop-k.invariant t more g ns rs fk s fe d b tree at seen h list) (omega (arith, c.loop-k-test.false)) in
-    (record { nodes = e.0; rows = e.1 }, λ fits. turned_after t g fk ns (c.turn.ensures _ (e.2 fits)))
+    (record { nodes = e.0; rows = e.1 }, λ fits. turned_after t g fk ns (c.turn.ensures.stack _ (e.2 fits)))

@@ -1,4 +1,4 @@
-use Prim.Native.Nat.{ℕ, ◌<◌, ◌^◌}
+use Prim.Native.Nat.{ℕ, ◌<◌}
 use mathlib.Core.Path.{◌≡◌}
 use mathlib.Core.Bool.{Bool}
 use mathlib.Core.List.{List, ◌++◌, map}
@@ -12,8 +12,5 @@ use Rattle.modality.proofs.Give.{Making}
 use Rattle.modality.proofs.give_on_leaf.Given as goal
 
 -- The nodes made so far and those that the rest of the worlds still give are all that is to be given; each turn makes the first of the rest.
-abbrev pub invariant-loop-rest : goal.invariant-loop-rest
-invariant-loop-rest l = (l.rest < 2 ^ 32) × DrawnFrom l.initial.tree.len l.given l.tree.len × ((ns : List Node) (p : ℕ → Bool) → ((v : ℕ) → v < 32 → bit_of l.here v ≡ p v) → HasNodes ns l.initial.tree → Making (new_node l.spawner.0 l.formula.0) (ns ++ map (new_node l.spawner.0 l.formula.0) (filter p (worlds_in l.worlds))) l.rest l.tree.len l.tree.cells)
-
-abbrev pub decreases-loop-rest : goal.decreases-loop-rest
-decreases-loop-rest l = l.rest
+abbrev pub invariant-loop-v : goal.invariant-loop-v
+invariant-loop-v l = DrawnFrom l.initial.tree.len l.given l.tree.len × ((ns : List Node) (p : ℕ → Bool) → ((v : ℕ) → v < 32 → bit_of l.fn.here.0 v ≡ p v) → HasNodes ns l.initial.tree → Making (new_node l.spawner.0 l.formula.0) (ns ++ map (new_node l.spawner.0 l.formula.0) (filter p (worlds_in l.fn.worlds.0))) (worlds_in l.v-iterator.rest.0) l.tree.len l.tree.nodes)

@@ -9,4 +9,4 @@ use Rattle.necessities.proofs.insert_all.Given as goal
 
 -- After i turns row k has, beside its own, the first i of the listed numbers, and the other rows are as they were.
 abbrev pub invariant-loop-i : goal.invariant-loop-i
-invariant-loop-i s = (l : List ℕ) → HasList l s.list → s.list.len ≤ most_identifiers → Each (λ x. x < most_identifiers) l → Added s.k (take s.i l) s.initial.leaves s.leaves
+invariant-loop-i s = (l : List ℕ) → HasList l s.list → s.list.len ≤ most_identifiers → Each (λ x. x < most_identifiers) l → Added s.k (take s.i l) s.initial.leaves.words s.leaves.words

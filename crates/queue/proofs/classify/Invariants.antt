@@ -13,5 +13,5 @@ use Rattle.queue.proofs.classify.Given as goal
 
 -- After each turn the classes of the first i waiting nodes are listed; those from i on are left.
 abbrev pub invariant-loop-i : goal.invariant-loop-i
-invariant-loop-i l = (F : Setting) (rs : List Rec) (ns : List Node) (q more : List ℕ) → HasRecords rs l.formulas → l.formulas.count ≤ most_formulas → Laid ns l.tree → HasList (q ++ more) l.waiting → l.waiting.len ≤ most_identifiers → HasList (map (D.get_node_priority F rs ns) q) l.fn.classes →
+invariant-loop-i l = (F : Setting) (rs : List Rec) (ns : List Node) (q more : List ℕ) → HasRecords rs l.formulas → l.formulas.records.len ≤ most_formulas → Laid ns l.tree → HasList (q ++ more) l.waiting → l.waiting.len ≤ most_identifiers → HasList (map (D.get_node_priority F rs ns) q) l.fn.classes →
     HasList (map (D.get_node_priority F rs ns) (take l.i (q ++ more))) l.classes

@@ -1,10 +1,7 @@
 use borrow.Author.Rules.{rules}
 use native.Mathlib.Omega.{arith}
-use Rattle.queue.proofs.Taking.{class_start, search_begin, search_next, search_end, search_hit, search_miss}
+use Rattle.queue.proofs.Taking.{search_begin, search_next, search_end, search_hit, search_miss}
 use Rattle.queue.proofs.first_urgent.Goals as goal
-
-pub classes-init : goal.classes-init
-classes-init c = (search rules, λ F rs ns q l g. class_start F rs ns q)
 
 pub loop-i-init : goal.loop-i-init
 loop-i-init c = λ F rs ns q l g. search_begin F rs ns q l g _ (omega arith) (c.classes.invariant.1 F rs ns q l g)

@@ -16,7 +16,7 @@ loop-k-init c = λ ns q rs p f t st. joining_start ns q rs p f st
 pub loop-k-preserved : goal.loop-k-preserved
 loop-k-preserved c = λ ns q rs p f t st.
     let h = c.if-tree-gt-MOST_IDENTIFIERS.false in
-    joining_next rs c.loop-k.k _ _ _ _ c.loop-k-test.true (held_few p h) (t h) c.field.ensures c.field-in-loop-k.ensures c.field-in-loop-k-2.ensures c.with_middle_vertical_nodes-s.ensures (c.loop-k.invariant ns q rs p f t st) c.append_subtree.ensures
+    joining_next rs c.loop-k.k _ _ c.loop-k-test.true (held_few p h) (t h) c.get_or-item.ensures.0 c.with_middle_vertical_nodes.ensures (c.loop-k.invariant ns q rs p f t st) c.append_subtree.ensures
 
 pub returns : goal.returns
 returns c = λ ns q is p f t st.

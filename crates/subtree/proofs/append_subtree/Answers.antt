@@ -1,3 +1,4 @@
+use native.Mathlib.Omega.{arith}
 use mathlib.Core.Path.{sym, ◌∙◌}
 use Rattle.subtree.proofs.Placing.{subtree_full, subtree_as, subtree_none, found_takers, subtree_many, subtree_on}
 use Rattle.subtree.proofs.append_subtree.Goals as goal
@@ -15,11 +16,11 @@ returns-then-found-gt-MOST_IDENTIFIERS c = λ ns q t p f w r.
     let a = c.args in
     let x = a.target.0 in
     let room = c.if-tree-gt-MOST_IDENTIFIERS.false in
-    subtree_as a.s t x ns q p room w (λ i. subtree_many a.s x ns q (found_takers x ns _ _ _ p room r c.new-found.ensures c.takers.ensures) c.fill_up.ensures (λ e. c.if-size-eq0.false (c.size.ensures ∙ e)) i c.if-found-gt-MOST_IDENTIFIERS.true)
+    subtree_as a.s t x ns q p room w (λ i. subtree_many a.s x ns q (found_takers x ns _ _ _ p room r (c.new-found.ensures (omega arith)) c.takers.ensures) c.fill_up.ensures (λ e. c.if-size-eq0.false (c.size.ensures ∙ e)) i c.if-found-gt-MOST_IDENTIFIERS.true)
 
 pub returns : goal.returns
 returns c = λ ns q t p f w r.
     let a = c.args in
     let x = a.target.0 in
     let room = c.if-tree-gt-MOST_IDENTIFIERS.false in
-    subtree_as a.s t x ns q p room w (λ i. subtree_on a.s x ns q (found_takers x ns _ _ _ p room r c.new-found.ensures c.takers.ensures) c.if-found-gt-MOST_IDENTIFIERS.false (λ ls l g. c.append_on.ensures ns q ls p f i l g))
+    subtree_as a.s t x ns q p room w (λ i. subtree_on a.s x ns q (found_takers x ns _ _ _ p room r (c.new-found.ensures (omega arith)) c.takers.ensures) c.if-found-gt-MOST_IDENTIFIERS.false (λ ls l g. c.append_on.ensures ns q ls p f i l g))

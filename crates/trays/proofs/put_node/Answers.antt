@@ -1,7 +1,7 @@
 use borrow.Author.Rules.{rules}
 use mathlib.Core.Path.{◌∙◌, ap}
 use mathlib.Core.Bool.{Bool, cond}
-use Rattle.definition.specs.Tree.{node_at}
+use Rattle.definition.specs.Tree.{node_at, place_number}
 use Rattle.slices.proofs.Writing.{low_same, puts_then, puts_as}
 use Rattle.trays.proofs.Bytes.{bit_of, node_bytes_lem}
 use Rattle.trays.proofs.put_node.Goals as goal
@@ -12,7 +12,7 @@ returns c = λ ns z b.
     puts_as
     (node_bytes_lem node
     (c.parent_of-parent.ensures ns z)
-    (c.place_byte.ensures node.place (c.place_of-place.ensures ns z))
+    (c.number-place.ensures ∙ ap place_number (c.place_of.ensures ns z))
     (low_same (search rules) (c.world_of.ensures ns z) b)
     (c.formula_of-formula.ensures ns z)
     (c.spawner_of-spawner.ensures ns z)

@@ -4,10 +4,6 @@ use Rattle.frames.proofs.Texts.{both, from_none}
 use Rattle.typed_text.proofs.Marks.{byte_digits}
 use Rattle.typed_text.proofs.shown_byte.Goals as goal
 
-pub returns-then-is_plain : goal.returns-then-is_plain
-unfolding shown
-returns-then-is_plain c = rw (sym c.is_plain.ensures ∙ c.if-is_plain.true) (c.push.ensures.items ∙ ap (λ (l : List ℕ). l ++ (c.args.b ∷ [])) c.new-glyph.ensures)
-
 pub returns : goal.returns
 unfolding shown
 returns c =

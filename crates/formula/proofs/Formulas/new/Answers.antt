@@ -1,5 +1,5 @@
-use Rattle.formula.proofs.Recorded.{recorded_none}
+use native.Mathlib.Omega.{arith}
 use Rattle.formula.proofs.Formulas.new.Goals as goal
 
 pub returns : goal.returns
-returns c = recorded_none
+returns c = record { held = c.new.ensures (omega arith) }

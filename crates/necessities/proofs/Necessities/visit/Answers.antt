@@ -1,5 +1,5 @@
 use Rattle.necessities.proofs.Stacks.{stack_visit}
 use Rattle.necessities.proofs.Necessities.visit.Goals as goal
 
-pub returns : goal.returns
-returns c = λ ns i none s e. stack_visit i _ _ _ none s e c.union.ensures
+pub returns-clause-stack : goal.returns-clause-stack
+returns-clause-stack c = λ ns i none s e. stack_visit i _ none _ _ s e c.union.ensures

@@ -1,10 +1,7 @@
 use mathlib.Core.Path.{◌∙◌, sym}
 use native.Mathlib.Omega.{arith}
-use Rattle.proof.proofs.Going.{going_start, going_stops, going_next, going_ends}
+use Rattle.proof.proofs.Going.{going_stops, going_next, going_ends}
 use Rattle.proof.proofs.State.prove.Goals as goal
-
-pub loop-init : goal.loop-init
-loop-init c = λ s r h. going_start r h (omega arith)
 
 pub returns-then-stops : goal.returns-then-stops
 returns-then-stops c = λ s r h.
