@@ -33,8 +33,8 @@ use formula::FormulaNumber;
 use graph::{Graph, PossibleWorld};
 use limits::MOST_IDENTIFIERS;
 use modality::{
-    Forking, PathWorlds, give_on_leaf, is_reapplied, leaves_of, leaves_through, unvisited,
-    worlds_on_paths,
+    EarlierTree, Forking, PathWorlds, give_on_leaf, is_reapplied, leaves_of, leaves_through,
+    unvisited, worlds_on_paths,
 };
 use necessities::Necessities;
 use setting::Setting;
@@ -90,7 +90,8 @@ fn reapply_necessity(
     on: &Numbers,
     items: &mut Items,
 )
-    ensures { (t more : List Node) (g : D.Graph) (fk : Option Fork) (ns : List Necessity) (none : Necessity) (rs : List subtrees.Item) (i : ℕ)
+    ensures kept { necessities.new.leaves ≡ necessities.old.leaves }
+    ensures gave { (t more : List Node) (g : D.Graph) (fk : Option Fork) (ns : List Necessity) (none : Necessity) (rs : List subtrees.Item) (i : ℕ)
         → HasStack ns necessities.old → i + k + 1 ≡ necessities.old.count → worlds_in worlds.0 ≡ unvisited g (get_or ns i none)
         → HasList (leaves_of t (get_or ns i none)) on.now → on.now.len ≤ most_identifiers → Each (Seen t fk seen.now) (leaves_of t (get_or ns i none))
         → HasNodes (t ++ more) tree.old → (tree.old.len ≤ most_identifiers → Listing rs [] items.old tree.old.len)
@@ -107,7 +108,7 @@ fn reapply_necessity(
 }
 
 // The necessity of row k, i below the top, is given again if it has a world to visit and one of its paths goes through the forking node.
-// The tree had `base` nodes before the step.
+// The tree had `base` nodes before the step; it is lent whole, since nodes are appended to it.
 fn reapply_if_on_path(
     tree: &mut ProofTree,
     base: usize,
@@ -118,7 +119,8 @@ fn reapply_if_on_path(
     seen: &PathWorlds,
     items: &mut Items,
 )
-    ensures { (t more : List Node) (g : D.Graph) (ns : List Necessity) (none : Necessity) (rs : List subtrees.Item) (i : ℕ) (fk : Fork)
+    ensures kept { necessities.new.leaves ≡ necessities.old.leaves }
+    ensures gave { (t more : List Node) (g : D.Graph) (ns : List Necessity) (none : Necessity) (rs : List subtrees.Item) (i : ℕ) (fk : Fork)
         → HasStack ns necessities.old → i + k + 1 ≡ necessities.old.count → fk.node ≡ node.0
         → HasGraph g graph.now → length t ≡ base → Treed t → ThroughSpawner t (get_or ns i none) → Each (Seen t (some fk) seen.now) (leaves t)
         → HasNodes (t ++ more) tree.old → (tree.old.len ≤ most_identifiers → Listing rs [] items.old tree.old.len)
@@ -133,11 +135,12 @@ fn reapply_if_on_path(
         return;
     }
     let spawner = necessities.at(k).spawner;
-    if !is_reapplied(tree, base, node, spawner) {
+    let earlier = EarlierTree { tree, base };
+    if !is_reapplied(earlier, node, spawner) {
         return;
     }
     let mut on = Numbers::new(0);
-    leaves_through(tree, base, spawner, &mut on);
+    leaves_through(earlier, spawner, &mut on);
     reapply_necessity(tree, necessities, k, seen, fresh, &on, items);
 }
 
@@ -151,7 +154,8 @@ fn reapply_necessity_after_possibility(
     seen: &PathWorlds,
     items: &mut Items,
 )
-    ensures { (t more : List Node) (g : D.Graph) (ns : List Necessity) (rs : List subtrees.Item) (fk : Fork)
+    ensures kept { necessities.new.leaves ≡ necessities.old.leaves }
+    ensures gave { (t more : List Node) (g : D.Graph) (ns : List Necessity) (rs : List subtrees.Item) (fk : Fork)
         → HasStack ns necessities.old → fk.node ≡ node.0
         → HasGraph g graph.now → length t ≡ base → Treed t → Each (ThroughSpawner t) ns → (0 < necessities.old.count → Each (Seen t (some fk) seen.now) (leaves t))
         → HasNodes (t ++ more) tree.old → (tree.old.len ≤ most_identifiers → Listing rs [] items.old tree.old.len)
@@ -177,8 +181,12 @@ fn store_necessity(
     ensures { (s : State) → Treed s.nodes → length s.nodes ≡ tree.now.len → Laid s.nodes tree.now → HasStack s.necessities necessities.old → necessities.old.count < most_identifiers
         → HasStack (necessity_of s x.0 f.0 ∷ s.necessities) necessities.new }
 {
+    let now = EarlierTree {
+        tree,
+        base: tree.len,
+    };
     let mut stored = Numbers::new(0);
-    leaves_through(tree, tree.len, x, &mut stored);
+    leaves_through(now, x, &mut stored);
     necessities.store(f, tree.world_of(x), x, &stored);
 }
 
@@ -195,21 +203,17 @@ pub fn apply_necessity(
     tableau.graph.initialize_graph_if_needed(setting);
     let k = tableau.necessities.count;
     store_necessity(&tableau.tree, &mut tableau.necessities, x, f);
-    let base = tableau.tree.len;
+    let now = EarlierTree {
+        tree: &tableau.tree,
+        base: tableau.tree.len,
+    };
     let mut below = Numbers::new(0);
-    leaves_through(&tableau.tree, base, x, &mut below);
+    leaves_through(now, x, &mut below);
     let mut on = Numbers::new(0);
     let row = tableau.necessities.at(k).leaf_row as usize;
-    leaves_of(
-        &tableau.tree,
-        base,
-        &tableau.necessities,
-        row,
-        &below,
-        &mut on,
-    );
+    leaves_of(now, &tableau.necessities, row, &below, &mut on);
     let mut seen = PathWorlds::new();
-    worlds_on_paths(&tableau.tree, base, None, &on, &mut seen);
+    worlds_on_paths(now, None, &on, &mut seen);
     let fresh = worlds_to_visit(&tableau.graph, &tableau.necessities, k);
     let mut items = Items::new();
     reapply_necessity(
@@ -265,24 +269,19 @@ fn place_fork(
     append_logic_rule_result(tree, items, waiting);
 }
 
-// Stores the worlds that occur on each leaf's path while x forks to world v; nothing where no necessity asks for them.
-fn worlds_at_fork(
-    tree: &ProofTree,
-    x: ProofTreeNodeID,
-    v: PossibleWorld,
-    stored: usize,
-    seen: &mut PathWorlds,
-)
-    ensures { (t : List Node) → Treed t → length t ≡ tree.now.len → Laid t tree.now → length seen.old.sets ≡ most_identifiers → 0 < stored
+// Stores the worlds that occur on each leaf's path while x forks to world v.
+fn worlds_at_fork(tree: &ProofTree, x: ProofTreeNodeID, v: PossibleWorld, seen: &mut PathWorlds)
+    ensures { (t : List Node) → Treed t → length t ≡ tree.now.len → Laid t tree.now → length seen.old.sets ≡ most_identifiers
         → Each (Seen t (some (record { node = x.0; world = v.0 })) seen.new) (leaves t) }
 {
-    if stored == 0 {
-        return;
-    }
+    let now = EarlierTree {
+        tree,
+        base: tree.len,
+    };
     let forking = Some(Forking { node: x, world: v });
     let mut all = Numbers::new(0);
     tree.leaves_below(ProofTreeNodeID::ROOT, tree.len, &mut all);
-    worlds_on_paths(tree, tree.len, forking, &all, seen);
+    worlds_on_paths(now, forking, &all, seen);
 }
 
 // A new world, with the formula and its comment; then the stored necessities whose paths go through the node.
@@ -292,7 +291,8 @@ pub fn apply_possibility(
     x: ProofTreeNodeID,
     f: FormulaNumber,
 )
-    ensures { (s : State) (more : List Rec) (q : List ℕ) → Before tableau.old s q
+    ensures kept { tableau.new.necessities.leaves ≡ tableau.old.necessities.leaves }
+    ensures after { (s : State) (more : List Rec) (q : List ℕ) → Before tableau.old s q
         → After tableau.new s q (apply_possibility (asked setting) s x.0 more f.0) }
 {
     tableau.graph.initialize_graph_if_needed(setting);
@@ -300,8 +300,10 @@ pub fn apply_possibility(
     let u = tableau.tree.world_of(x);
     tableau.graph.fork_world(u, setting);
     let mut seen = PathWorlds::new();
-    let stored = tableau.necessities.count;
-    worlds_at_fork(&tableau.tree, x, v, stored, &mut seen);
+    // Where no necessity is stored, none asks what occurs on a path.
+    if 0 < tableau.necessities.count {
+        worlds_at_fork(&tableau.tree, x, v, &mut seen);
+    }
     let base = tableau.tree.len;
     let id = fork_nodes(&mut tableau.tree, x, f, v);
     let mut items = Items::new();

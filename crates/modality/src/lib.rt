@@ -6,7 +6,7 @@ ghost use Rattle.definition.specs.Limits.{most_identifiers};
 ghost use Rattle.arrays.specs.Listed.{HasList};
 ghost use Rattle.bits.specs.Bits.{bit_of};
 ghost use Rattle.bits.specs.Worlds.{no_world, worlds_in, InWord};
-ghost use Rattle.definition.specs.Lists.{Each, elem, filter};
+ghost use Rattle.definition.specs.Lists.{Each, any, elem, filter};
 ghost use Rattle.definition.specs.Graph as D;
 ghost use Rattle.definition.specs.Graph.{edge};
 ghost use Rattle.definition.specs.Tree.{Node, node_at, new_node, path, leaves};
@@ -17,7 +17,7 @@ ghost use Rattle.graph.specs.Drawn.{HasGraph};
 ghost use Rattle.tree.specs.Chain.{DrawnFrom};
 ghost use Rattle.tree.specs.Lay.{HasNodes};
 ghost use Rattle.necessities.specs.Stored.{InRow};
-ghost use Rattle.tree.specs.Stands.{Stands};
+ghost use Rattle.modality.specs.Earlier.{HasEarlier};
 ghost use Rattle.modality.specs.Forking.{fork_of};
 ghost use Rattle.modality.specs.Seen.{brings, Seen};
 
@@ -75,112 +75,113 @@ impl PathWorlds {
     }
 }
 
-// The parent of x in the tree as it stood, when it had `base` nodes.
-fn parent_before(tree: &ProofTree, base: usize, x: ProofTreeNodeID) -> ProofTreeNodeID
-    ensures { (t : List Node) → Stands t base tree.now → result.0 ≡ (node_at t x.0).parent }
-{
-    if base <= x.0 as usize {
-        return ProofTreeNodeID::NONE;
-    }
-    tree.parent_of(x)
+// The tree as it stood when it had `base` nodes, whatever nodes were made since.
+#[derive(Clone, Copy)]
+pub struct EarlierTree<'a> {
+    pub tree: &'a ProofTree,
+    pub base: usize,
 }
 
-fn world_before(tree: &ProofTree, base: usize, x: ProofTreeNodeID) -> PossibleWorld
-    ensures { (t : List Node) → Stands t base tree.now → result.0 ≡ (node_at t x.0).world }
-{
-    if base <= x.0 as usize {
-        return PossibleWorld::NONE;
+impl<'a> EarlierTree<'a> {
+    fn parent_of(self, x: ProofTreeNodeID) -> ProofTreeNodeID
+        ensures { (t : List Node) → HasEarlier t self.entry → result.0 ≡ (node_at t x.0).parent }
+    {
+        if self.base <= x.0 as usize {
+            return ProofTreeNodeID::NONE;
+        }
+        self.tree.parent_of(x)
     }
-    tree.world_of(x)
+
+    fn world_of(self, x: ProofTreeNodeID) -> PossibleWorld
+        ensures { (t : List Node) → HasEarlier t self.entry → result.0 ≡ (node_at t x.0).world }
+    {
+        if self.base <= x.0 as usize {
+            return PossibleWorld::NONE;
+        }
+        self.tree.world_of(x)
+    }
+
+    fn is_placed(self, x: ProofTreeNodeID) -> bool
+        ensures { (t : List Node) → HasEarlier t self.entry → result ≡ placed (node_at t x.0).place }
+    {
+        (x.0 as usize) < self.base && self.tree.is_placed(x)
+    }
+
+    // A node of the leaf's path passes the test.
+    fn any_on_path<F: Fn(ProofTreeNodeID) -> bool>(self, leaf: ProofTreeNodeID, test: F) -> bool
+        requires { F.IsAlwaysCallable test }
+        ensures { (t : List Node) (p : ℕ → Bool) → HasEarlier t self.entry → ((x : ProofTreeNodeID) (b : Bool) → F.post test x b → b ≡ p x.0) → result ≡ any p (path t leaf.0) }
+    {
+        self.tree.any_on_path(leaf, self.base, test)
+    }
 }
 
 // The path runs through a leaf stored in row k.
 fn path_runs_through(
-    tree: &ProofTree,
-    base: usize,
+    earlier: EarlierTree,
     necessities: &Necessities,
     k: usize,
     leaf: ProofTreeNodeID,
 ) -> bool
-    ensures { (t : List Node) (n : Necessity) → Stands t base tree.now → InRow k n.leaves necessities.now.leaves.words → result ≡ runs_through n (path t leaf.0) }
+    ensures { (t : List Node) (n : Necessity) → HasEarlier t earlier.entry → InRow k n.leaves necessities.now.leaves.words → result ≡ runs_through n (path t leaf.0) }
 {
-    tree.any_on_path(leaf, base, |x| necessities.row_contains(k, x))
+    earlier.any_on_path(leaf, |x| necessities.row_contains(k, x))
 }
 
 // The path goes through node x.
-fn path_goes_through(
-    tree: &ProofTree,
-    base: usize,
-    x: ProofTreeNodeID,
-    leaf: ProofTreeNodeID,
-) -> bool
-    ensures { (t : List Node) → Stands t base tree.now → result ≡ elem x.0 (path t leaf.0) }
+fn path_goes_through(earlier: EarlierTree, x: ProofTreeNodeID, leaf: ProofTreeNodeID) -> bool
+    ensures { (t : List Node) → HasEarlier t earlier.entry → result ≡ elem x.0 (path t leaf.0) }
 {
-    tree.any_on_path(leaf, base, |y| y == x)
+    earlier.any_on_path(leaf, |y| y == x)
 }
 
 // Of the listed leaves, those whose paths run through a leaf stored in row k.
 pub fn leaves_of(
-    tree: &ProofTree,
-    base: usize,
+    earlier: EarlierTree,
     necessities: &Necessities,
     k: usize,
     list: &Numbers,
     out: &mut Numbers,
 )
-    ensures { (t : List Node) (n : Necessity) (ls l : List ℕ) → Stands t base tree.now → InRow k n.leaves necessities.now.leaves.words → HasList ls list.now → list.now.len ≤ most_identifiers
+    ensures { (t : List Node) (n : Necessity) (ls l : List ℕ) → HasEarlier t earlier.entry → InRow k n.leaves necessities.now.leaves.words → HasList ls list.now → list.now.len ≤ most_identifiers
         → HasList l out.old → HasList (l ++ filter (λ leaf. runs_through n (path t leaf)) ls) out.new }
 {
     for j in 0..list.len {
         let leaf = list.nth(j);
-        if path_runs_through(tree, base, necessities, k, ProofTreeNodeID(leaf)) {
+        if path_runs_through(earlier, necessities, k, ProofTreeNodeID(leaf)) {
             out.push(leaf);
         }
     }
 }
 
-// Node x is in the tree as it stood.
-fn is_placed_before(tree: &ProofTree, base: usize, x: ProofTreeNodeID) -> bool
-    ensures { (t : List Node) → Stands t base tree.now → result ≡ placed (node_at t x.0).place }
-{
-    (x.0 as usize) < base && tree.is_placed(x)
-}
-
 // The leaves whose paths go through node x: those at and below it, if it is in the tree. The list is empty at first.
-pub fn leaves_through(tree: &ProofTree, base: usize, x: ProofTreeNodeID, out: &mut Numbers)
-    ensures { (t : List Node) → Treed t → Stands t base tree.now → HasList [] out.old → HasList (filter (λ leaf. elem x.0 (path t leaf)) (leaves t)) out.new }
+pub fn leaves_through(earlier: EarlierTree, x: ProofTreeNodeID, out: &mut Numbers)
+    ensures { (t : List Node) → Treed t → HasEarlier t earlier.entry → HasList [] out.old → HasList (filter (λ leaf. elem x.0 (path t leaf)) (leaves t)) out.new }
 {
-    if is_placed_before(tree, base, x) {
-        tree.leaves_below(x, base, out);
+    if earlier.is_placed(x) {
+        earlier.tree.leaves_below(x, earlier.base, out);
     }
 }
 
 // A path of the necessity goes through the forking node: both are in the tree, and one stands above the other.
-pub fn is_reapplied(
-    tree: &ProofTree,
-    base: usize,
-    node: ProofTreeNodeID,
-    spawner: ProofTreeNodeID,
-) -> bool
-    ensures { (t : List Node) (k : Fork) (n : Necessity) → Treed t → ThroughSpawner t n → k.node ≡ node.0 → n.spawner ≡ spawner.0 → Stands t base tree.now → result ≡ is_reapplied t k n }
+pub fn is_reapplied(earlier: EarlierTree, node: ProofTreeNodeID, spawner: ProofTreeNodeID) -> bool
+    ensures { (t : List Node) (k : Fork) (n : Necessity) → Treed t → ThroughSpawner t n → k.node ≡ node.0 → n.spawner ≡ spawner.0 → HasEarlier t earlier.entry → result ≡ is_reapplied t k n }
 {
-    is_placed_before(tree, base, node)
-        && is_placed_before(tree, base, spawner)
-        && (path_goes_through(tree, base, spawner, node)
-            || path_goes_through(tree, base, node, spawner))
+    earlier.is_placed(node)
+        && earlier.is_placed(spawner)
+        && (path_goes_through(earlier, spawner, node) || path_goes_through(earlier, node, spawner))
 }
 
 // These worlds, and those that node x brings to its paths: its own, and the new world if it is the forking node.
 fn with_worlds(
-    tree: &ProofTree,
-    base: usize,
+    earlier: EarlierTree,
     forking: Option<Forking>,
     worlds: WorldSet,
     x: ProofTreeNodeID,
 ) -> WorldSet
-    ensures { (t : List Node) → Stands t base tree.now → (v : ℕ) → v < 32 → bit_of result.0 v ≡ (brings t (fork_of forking) v x.0 || bit_of worlds.0 v) }
+    ensures { (t : List Node) → HasEarlier t earlier.entry → (v : ℕ) → v < 32 → bit_of result.0 v ≡ (brings t (fork_of forking) v x.0 || bit_of worlds.0 v) }
 {
-    let here = worlds.with(world_before(tree, base, x));
+    let here = worlds.with(earlier.world_of(x));
     match forking {
         Some(fork) if fork.node == x => here.with(fork.world),
         _ => here,
@@ -188,41 +189,35 @@ fn with_worlds(
 }
 
 // The worlds that occur on the path of a leaf; the new world of a fork does on the paths through the forking node.
-fn worlds_on(
-    tree: &ProofTree,
-    base: usize,
-    forking: Option<Forking>,
-    leaf: ProofTreeNodeID,
-) -> WorldSet
-    ensures { (t : List Node) → Stands t base tree.now → (v : ℕ) → v < 32 → bit_of result.0 v ≡ occurs t (fork_of forking) (path t leaf.0) v }
+fn worlds_on(earlier: EarlierTree, forking: Option<Forking>, leaf: ProofTreeNodeID) -> WorldSet
+    ensures { (t : List Node) → HasEarlier t earlier.entry → (v : ℕ) → v < 32 → bit_of result.0 v ≡ occurs t (fork_of forking) (path t leaf.0) v }
 {
     let mut worlds = WorldSet::EMPTY;
     let mut cur = leaf;
-    for _ in 0..base {
+    for _ in 0..earlier.base {
         if cur.is_none() {
             return worlds;
         }
-        worlds = with_worlds(tree, base, forking, worlds, cur);
-        cur = parent_before(tree, base, cur);
+        worlds = with_worlds(earlier, forking, worlds, cur);
+        cur = earlier.parent_of(cur);
     }
     worlds
 }
 
 // Stores the worlds that occur on the paths of the listed leaves, each at its leaf. The other entries stay.
 pub fn worlds_on_paths(
-    tree: &ProofTree,
-    base: usize,
+    earlier: EarlierTree,
     forking: Option<Forking>,
     on: &Numbers,
     seen: &mut PathWorlds,
 )
-    ensures { ((t : List Node) (ls : List ℕ) → Stands t base tree.now → HasList ls on.now → on.now.len ≤ most_identifiers → Each (λ l. l < most_identifiers) ls → length seen.old.sets ≡ most_identifiers
+    ensures { ((t : List Node) (ls : List ℕ) → HasEarlier t earlier.entry → HasList ls on.now → on.now.len ≤ most_identifiers → Each (λ l. l < most_identifiers) ls → length seen.old.sets ≡ most_identifiers
         → Each (Seen t (fork_of forking) seen.new) ls)
         × ((ls : List ℕ) → HasList ls on.now → on.now.len ≤ most_identifiers → (x : ℕ) → elem x ls ≡ false → get_or seen.new.sets x no_world ≡ get_or seen.old.sets x no_world) }
 {
     for j in 0..on.len {
         let leaf = ProofTreeNodeID(on.nth(j));
-        let worlds = worlds_on(tree, base, forking, leaf);
+        let worlds = worlds_on(earlier, forking, leaf);
         seen.put(leaf, worlds);
     }
 }

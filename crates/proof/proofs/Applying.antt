@@ -73,11 +73,9 @@ after_here F s x recs q r plain h = after_as s q (rule_here F s x recs r plain) 
 
 -- contradictions
 module _ (F : Setting) (s : State) where
-  pub check_skipped : {proved : Bool} {len : ℕ} {a : List ProofTreeNode} → F.skip ≡ true → proved ≡ s.proved → Held s.nodes len a →
-      Held (check_for_contradictions F s).nodes len a × (len ≤ most_identifiers → proved ≡ (check_for_contradictions F s).proved)
+  pub check_skipped : F.skip ≡ true → s ≡ check_for_contradictions F s
   unfolding check_for_contradictions
-  check_skipped {proved = proved} {len} {a} t p h =
-      subst (λ (c : Bool). Held (cond c s (checked_for_contradictions s)).nodes len a × (len ≤ most_identifiers → proved ≡ (cond c s (checked_for_contradictions s)).proved)) (sym t) (h, λ _. p)
+  check_skipped t = rw t refl
 
   abbrev found : List (Option Pair)
   found = pairs s.formulas s.nodes (leaves s.nodes)
@@ -90,8 +88,8 @@ module _ (F : Setting) (s : State) where
 
 -- one path more, or none, where the run has proved and where it has not
 module _ (s : State) where
-  pub or_yes : (v : Bool) {proved : Bool} → proved ≡ s.proved → proved ≡ true → true ≡ (s.proved || v)
-  or_yes v e t = ap (λ (c : Bool). c || v) (sym t ∙ e)
+  pub or_yes : (v : Bool) {proved : Bool} → proved ≡ s.proved → proved ≡ true → proved ≡ (s.proved || v)
+  or_yes v e t = t ∙ ap (λ (c : Bool). c || v) (sym t ∙ e)
 
   pub or_no : (v : Bool) {proved : Bool} → proved ≡ s.proved → proved ≡ false → v ≡ (s.proved || v)
   or_no v e t = ap (λ (c : Bool). c || v) (sym t ∙ e)

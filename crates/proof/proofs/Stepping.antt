@@ -23,7 +23,7 @@ use Rattle.definition.specs.Queue as D
 use Rattle.definition.specs.Run.{State, apply_rule, apply, checked_for_contradictions, check_for_contradictions, appended, step, stops}
 use Rattle.definition.proofs.Basics.Lists.{each_map}
 use Rattle.definition.proofs.Run.Popping.{Taken, pop_taken, taken_each, taken_fewer, pop_filled}
-use Rattle.definition.proofs.Run.Stepping.{checked_both, not_stopped, step_is}
+use Rattle.definition.proofs.Run.Stepping.{checked_both, checked_length, not_stopped, step_is}
 use Rattle.definition.proofs.Run.Counting.{Counted, appended_counted}
 use Rattle.definition.proofs.Engine.Classes.{queued, classes_appended, classes_checked}
 use Rattle.definition.proofs.Soundness.Priest.{made_two}
@@ -97,9 +97,6 @@ checked_alike F s =
     checked_both (Alike s) F s (record { formulas = refl; graph = refl; necessities = refl; waiting = refl; steps = refl })
     (record { formulas = refl; graph = refl; necessities = refl; waiting = refl; steps = refl })
 
-pub laid_fits : {F : Setting} {s : State} {x : Rust.State} → StateLaid F s x → x.tableau.tree.len ≤ most_identifiers
-laid_fits l = omega (arith, l.room, l.count)
-
 -- a state whose contradictions are checked: its nodes and what is proved, and the rest as it was
 pub checked_laid : (F : Setting) (s : State) {x : Rust.State} →
     HasRecords s.formulas x.formulas → HasGraph s.graph x.tableau.graph → HasStack s.necessities x.tableau.necessities → HasList s.waiting x.tableau.waiting → HasList (map (D.get_node_priority F s.formulas s.nodes) s.waiting) x.classes → x.steps ≡ s.steps →
@@ -122,6 +119,22 @@ checked_laid F s {x} r g n w k e nodes proved small =
       proved = proved;
       steps = e ∙ same.steps;
     }
+
+pub checked_held : (F : Setting) (s : State) {x : Rust.State} {t : ProofTree} {proved : Bool} → StateHeld F s x → t.len ≡ x.tableau.tree.len →
+    (HasNodes s.nodes x.tableau.tree → HasRecords s.formulas x.formulas → x.proved ≡ s.proved →
+    HasNodes (check_for_contradictions F s).nodes t × (x.tableau.tree.len ≤ most_identifiers → proved ≡ (check_for_contradictions F s).proved)) →
+    StateHeld F (check_for_contradictions F s) (record {
+      formulas = x.formulas;
+      tableau = record { tree = t; graph = x.tableau.graph; necessities = x.tableau.necessities; waiting = x.tableau.waiting };
+      classes = x.classes;
+      steps = x.steps;
+      proved = proved;
+    })
+checked_held F s {x} (kept l) same check =
+    let small : x.tableau.tree.len ≤ most_identifiers = omega (arith, l.room, l.count) in
+    let k = check (held small l.count l.nodes) l.formulas l.proved in
+    kept (checked_laid F s l.formulas l.graph l.necessities l.waiting l.classes l.steps k.0 (k.1 small) (omega (arith, small, same)))
+checked_held F s (full over long) same check = full (omega (arith, same, over)) (omega (arith, long, checked_length F s))
 
 -- no more wait than there are nodes
 waiting_fits : (F : Setting) (k : ℕ) (s : State) → Fit F k s → length s.nodes ≤ most_identifiers → length s.waiting ≤ most_identifiers
@@ -226,58 +239,50 @@ module _ (F : Setting) (s : State) (x : ℕ) (q : List ℕ) where
     unfolding Counted
     next_counted = appended_counted F s taken (taken_fewer s.waiting taken out) fit.bounded.counted
 
-  next_proved : next.proved ≡ s.proved
-  unfolding appended
-  next_proved = refl
+  -- the struct before the check
+  abbrev applied : Tableau → Formulas → Numbers → ℕ → Bool → Rust.State
+  applied A g c steps proved = record { formulas = g; tableau = A; classes = c; steps = steps; proved = proved }
 
-  -- the struct after the step
-  abbrev after : Tableau → Formulas → Numbers → ProofTree → ℕ → Bool → Rust.State
-  after A g c t steps proved =
-      record { formulas = g; tableau = record { tree = t; graph = A.graph; necessities = A.necessities; waiting = A.waiting }; classes = c; steps = steps; proved = proved }
+  module _ {A : Tableau} {g : Formulas} {c : Numbers} {steps : ℕ} {proved : Bool} (h : Applied A) (r : HasRecords next.formulas g) (e : steps ≡ suc s.steps) (p : proved ≡ s.proved)
+      (classes : A.tree.len ≤ most_identifiers → HasList (map (D.get_node_priority F next.formulas next.nodes) next.waiting) c) where
+    applied_laid : A.tree.len ≤ most_identifiers → StateLaid F next (applied A g c steps proved)
+    unfolding appended
+    applied_laid small =
+        let rest = h.rest small in
+        let ok = held_ok h.nodes small in
+        record { formulas = r; room = omega (arith, ok.0, small); count = ok.0; nodes = ok.1; graph = rest.graph; necessities = rest.necessities; waiting = rest.waiting; classes = classes small; proved = p; steps = e }
 
-  module _ {A : Tableau} {g : Formulas} {c : Numbers} {t : ProofTree} {steps : ℕ} {proved : Bool} where
-    module _ (h : Applied A) (same : t.len ≡ A.tree.len) (r : HasRecords next.formulas g) (e : steps ≡ suc s.steps)
-        (nodes : HasNodes (check_for_contradictions F next).nodes t) (says : A.tree.len ≤ most_identifiers → proved ≡ (check_for_contradictions F next).proved)
-        (classes : A.tree.len ≤ most_identifiers → HasList (map (D.get_node_priority F next.formulas next.nodes) next.waiting) c) where
-      stepped_laid : A.tree.len ≤ most_identifiers → StateLaid F (check_for_contradictions F next) (after A g c t steps proved)
-      unfolding appended
-      stepped_laid small = let rest = h.rest small in checked_laid F next r rest.graph rest.necessities rest.waiting (classes small) e nodes (says small) (omega (arith, same, small))
+    applied_held : StateHeld F next (applied A g c steps proved)
+    applied_held = go (leb A.tree.len most_identifiers) refl
+      where
+        go : (b : Bool) → leb A.tree.len most_identifiers ≡ b → StateHeld F next (applied A g c steps proved)
+        go true k = kept (applied_laid (leb-true A.tree.len most_identifiers k))
+        go false k = let over : most_identifiers < A.tree.len = omega (arith, leb-false A.tree.len most_identifiers k) in full over (held_over (next_nodes h) over)
 
-      stepped_kept : StateHeld F (check_for_contradictions F next) (after A g c t steps proved)
-      stepped_kept = go (leb A.tree.len most_identifiers) refl
-        where
-          go : (b : Bool) → leb A.tree.len most_identifiers ≡ b → StateHeld F (check_for_contradictions F next) (after A g c t steps proved)
-          go true k = kept (stepped_laid (leb-true A.tree.len most_identifiers k))
-          go false k =
-              let over : most_identifiers < t.len = omega (arith, same, leb-false A.tree.len most_identifiers k) in
-              full over (held_over nodes over)
-
-  pub stepped : {k : ℕ} {y : Rust.State} → Due F k s y → D.pop F s.formulas s.nodes s.waiting ≡ some taken →
-      {e : Consequence} {A : Tableau} {g : Formulas} {c d : Numbers} {t : ProofTree} {steps : ℕ} {proved : Bool} → Expands s.formulas (expansion s.formulas f) e g → (y.steps < most_identifiers → steps ≡ suc y.steps) →
+  pub stepped : {k : ℕ} {y z : Rust.State} → Due F k s y → D.pop F s.formulas s.nodes s.waiting ≡ some taken →
+      {e : Consequence} {A : Tableau} {g : Formulas} {c d : Numbers} {steps : ℕ} → Expands s.formulas (expansion s.formulas f) e g → (y.steps < most_identifiers → steps ≡ suc y.steps) →
       After A s q (apply_rule F s x recs (consequence_of e)) → HasList (map (D.get_node_priority F s.formulas s.nodes) q) c →
       ((F : Setting) (rs : List Rec) (ns : List Node) (q more : List ℕ) → HasRecords rs g → g.records.len ≤ most_formulas → Laid ns A.tree → HasList (q ++ more) A.waiting → A.waiting.len ≤ most_identifiers →
       HasList (map (D.get_node_priority F rs ns) q) c → HasList (map (D.get_node_priority F rs ns) (q ++ more)) d) →
-      t.len ≡ A.tree.len →
-      ((z : State) → y.proved ≡ z.proved → HasRecords z.formulas g → g.records.len ≤ most_formulas → HasNodes z.nodes A.tree → (F.skip ≡ false → A.tree.len ≤ most_identifiers → CheckedAt z.formulas z.nodes y.tableau.tree.len) →
-      HasNodes (check_for_contradictions F z).nodes t × (A.tree.len ≤ most_identifiers → proved ≡ (check_for_contradictions F z).proved)) →
-      StateHeld F (step F s) (after A g d t steps proved)
+      ((n : State) → g.records.len ≤ most_formulas → (F.skip ≡ false → A.tree.len ≤ most_identifiers → CheckedAt n.formulas n.nodes y.tableau.tree.len) →
+      StateHeld F n (applied A g d steps y.proved) → StateHeld F (check_for_contradictions F n) z) →
+      StateHeld F (step F s) z
   unfolding Counted
-  stepped {k} {y} d o {e} {A} {g} {c} {d = c'} {t} {steps} {proved} ex count af known classify same check =
+  stepped {k} {y} {z} d o {e} {A} {g} {c} {d = c'} {steps} ex count af known classify check =
       let fit = d.fit in
       let r = d.ready in
       let l = d.laid in
       let small = formulas_fit r.formulas ex.records in
       let h = next_after small ex af in
       let rec = next_records ex.records in
-      let nodes = next_nodes h in
-      let checked = check next (l.proved ∙ sym next_proved) rec small nodes (λ e fits. subst (CheckedAt next.formulas next.nodes) l.count
-      (since_step F k s taken fit d.goes (omega (arith, (held_ok nodes fits).0, fits)) (d.watch e (omega (arith, r.nodes))))) in
       let low : y.steps < most_identifiers = omega (arith, l.steps, fit.bounded.counted, r.nodes, filled s.waiting (waiting_some F s d.goes)) in
-      subst (λ (z : State). StateHeld F z (after A g c' t steps proved)) (sym (step_is F s taken o))
-      (stepped_kept h same rec (count low ∙ ap suc l.steps) checked.0 checked.1 (λ fits.
+      subst (λ (n : State). StateHeld F n z) (sym (step_is F s taken o))
+      (check next small
+      (λ e fits. subst (CheckedAt next.formulas next.nodes) l.count (since_step F k s taken fit d.goes (omega (arith, (held_ok (next_nodes h) fits).0, fits)) (d.watch e (omega (arith, r.nodes)))))
+      (applied_held h rec (count low ∙ ap suc l.steps) l.proved (λ fits.
       let w = queued F s taken in
-      let ok = held_ok nodes fits in
+      let ok = held_ok (next_nodes h) fits in
       let put = subst (λ (v : List ℕ). HasList v A.waiting) w.1 (next_waiting h fits) in
       subst (λ (v : List ℕ). HasList (map (D.get_node_priority F next.formulas next.nodes) v) c') (sym w.1)
-      (classify F next.formulas next.nodes q w.0 rec small (held_lays nodes fits) put (tabled_fits (next_waiting h fits) (omega (arith, next_counted k fit o, ok.0, fits)))
-      (subst (λ (v : List ℕ). HasList v c) (sym (classes_appended F k s taken fit q (others_known k fit o))) known))))
+      (classify F next.formulas next.nodes q w.0 rec small (held_lays (next_nodes h) fits) put (tabled_fits (next_waiting h fits) (omega (arith, next_counted k fit o, ok.0, fits)))
+      (subst (λ (v : List ℕ). HasList v c) (sym (classes_appended F k s taken fit q (others_known k fit o))) known)))))

@@ -9,9 +9,7 @@ ghost use Rattle.definition.specs.Run as R;
 ghost use Rattle.definition.specs.Run.{apply_here, apply_rule, check_for_contradictions, stops, run, enough_steps};
 ghost use Rattle.definition.specs.Reached.{Reached};
 ghost use Rattle.definition.specs.Shortcuts.{CheckedAt};
-ghost use Rattle.formula.specs.Recorded.{HasRecords};
 ghost use Rattle.setting.specs.Asked.{asked};
-ghost use Rattle.tree.specs.Lay.{HasNodes};
 ghost use Rattle.rules.specs.Consequences.{consequence_of};
 ghost use Rattle.rules.specs.Here.{here_of};
 ghost use Rattle.logic.specs.Applied.{Before, After};
@@ -26,7 +24,7 @@ use queue::{classify, pop};
 use rules::{Consequence, apply_here, expand};
 use setting::Setting;
 use subtree::append_subtree;
-use tree::{ProofTree, ProofTreeNodeID};
+use tree::ProofTreeNodeID;
 
 // The state of a run: the formulas, what the rules work on, the classes of the nodes that wait, how many steps were made, and whether it has proved.
 // The classes are a list of their own, since the rules queue nodes and know of no class.
@@ -90,41 +88,28 @@ fn next_step(steps: usize) -> usize
     steps + 1
 }
 
-// The contradictions of the tree after a rule, unless they are skipped; whether the run has proved. They were checked when the tree had `old` nodes.
-fn check(
-    setting: Setting,
-    proved: bool,
-    formulas: &Formulas,
-    tree: &mut ProofTree,
-    old: usize,
-) -> bool
-    ensures { (tree.new.len ≡ tree.old.len)
-        × ((s : R.State) → proved ≡ s.proved → HasRecords s.formulas formulas.now → formulas.now.records.len ≤ most_formulas → HasNodes s.nodes tree.old → ((asked setting).skip ≡ false → tree.old.len ≤ most_identifiers → CheckedAt s.formulas s.nodes old)
-        → HasNodes (check_for_contradictions (asked setting) s).nodes tree.new × (tree.old.len ≤ most_identifiers → result ≡ (check_for_contradictions (asked setting) s).proved)) }
-{
-    if setting.skip {
-        return proved;
-    }
-    let every = check_for_contradictions(formulas, tree, old);
-    if proved {
-        return true;
-    }
-    every
-}
-
 impl State {
+    // Checks the tree's contradictions after a rule, unless they are skipped. They were checked when the tree had `old` nodes.
+    fn check(&mut self, setting: Setting, old: usize)
+        ensures { (s : R.State) → self.old.formulas.records.len ≤ most_formulas → ((asked setting).skip ≡ false → self.old.tableau.tree.len ≤ most_identifiers → CheckedAt s.formulas s.nodes old)
+            → StateHeld (asked setting) s self.old → StateHeld (asked setting) (check_for_contradictions (asked setting) s) self.new }
+    {
+        if setting.skip {
+            return;
+        }
+        let every = check_for_contradictions(&self.formulas, &mut self.tableau.tree, old);
+        if self.proved {
+            return;
+        }
+        self.proved = every;
+    }
+
     // The state before any step: contradictions are checked once, unless they are skipped.
     pub fn begin(&mut self, setting: Setting)
         ensures { (s : R.State) → self.old.formulas.records.len ≤ most_formulas → CheckedAt s.formulas s.nodes 0
             → StateLaid (asked setting) s self.old → StateHeld (asked setting) (check_for_contradictions (asked setting) s) self.new }
     {
-        self.proved = check(
-            setting,
-            self.proved,
-            &self.formulas,
-            &mut self.tableau.tree,
-            0,
-        );
+        self.check(setting, 0);
     }
 
     // One step, where one is due; else the state stays.
@@ -148,13 +133,7 @@ impl State {
             &self.tableau.waiting,
             &mut self.classes,
         );
-        self.proved = check(
-            setting,
-            self.proved,
-            &self.formulas,
-            &mut self.tableau.tree,
-            old,
-        );
+        self.check(setting, old);
     }
 
     // The steps until none is due.

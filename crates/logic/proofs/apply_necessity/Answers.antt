@@ -34,5 +34,5 @@ returns c = λ s recs q b.
     let seen = c.worlds_on_paths.ensures.0 t _ z on few (paths_seen (λ y. y < most_identifiers) t n (leaves_low t b.treed b.count fits)) c.new-seen.ensures in
     let w = c.worlds_to_visit-fresh.ensures _ n row drawn in
     let h = held_as (t ++ []) (sym (append-nil t)) (before_held b) in
-    let r = c.reapply_necessity.ensures t [] _ none (n ∷ s.necessities) blank [] 0 st top w on few seen h (λ _. listing_start c.new-items.ensures _) in
+    let r = c.reapply_necessity.ensures.gave t [] _ none (n ∷ s.necessities) blank [] 0 st top w on few seen h (λ _. listing_start c.new-items.ensures _) in
     necessity_after F s x recs f q r.0 r.1 drawn b.waiting b.treed c.append_logic_rule_result.ensures

@@ -1,11 +1,13 @@
 use mathlib.Core.Path.{refl}
 use mathlib.Core.List.{[]}
+use native.Mathlib.Omega.{arith}
 use Rattle.logic.proofs.Forked.{known_few, forked_at_lem, forked_drawn, forked_held, forked_seen, listing_start, before_held, before_laid, possibility_after}
 use Rattle.setting.specs.Asked.{asked}
+use Rattle.logic.proofs.apply_possibility.Goals.{then-tableau-gt0, else-tableau-gt0}
 use Rattle.logic.proofs.apply_possibility.Goals as goal
 
-pub returns : goal.returns
-returns c = λ s recs q b.
+pub returns-clause-after : goal.returns-clause-after
+returns-clause-after c = λ s recs q b.
     let F = asked c.args.setting in
     let t = s.nodes in
     let x = c.args.x.0 in
@@ -17,6 +19,9 @@ returns c = λ s recs q b.
     let u = c.world_of-u.ensures t laid in
     let drawn = forked_drawn F s x recs f q u (c.fork_world.ensures.0 _ few known) in
     let two = forked_held F s x recs f q v (c.fork_nodes-id.ensures.1 t (before_held b)) in
-    let r = c.reapply_necessity_after_possibility.ensures t _ _ s.necessities [] _ b.necessities refl drawn b.count b.treed b.spawned
-    (λ some. forked_seen F s x recs f q _ v (c.worlds_at_fork.ensures t b.treed b.count laid c.new-seen.ensures some)) two (λ _. listing_start c.new-items.ensures _) in
+    let r = c.reapply_necessity_after_possibility.ensures.gave t _ _ s.necessities [] _ b.necessities refl drawn b.count b.treed b.spawned
+    (λ some. elim c.if-tableau-gt0.branch [
+      | then-tableau-gt0 w ↦ rw w.seen-is (forked_seen F s x recs f q _ v (w.worlds_at_fork.ensures t b.treed b.count laid c.new-seen.ensures))
+      | else-tableau-gt0 w ↦ absurd (omega (arith, some, w.if-tableau-gt0.false))
+    ]) two (λ _. listing_start c.new-items.ensures _) in
     possibility_after F s x recs f q b.count r.0 r.1 drawn b.waiting b.treed c.fork_nodes-id.ensures.0 c.place_fork.ensures

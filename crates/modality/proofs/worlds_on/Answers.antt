@@ -11,7 +11,7 @@ pub returns-then-is_none : goal.returns-then-is_none
 returns-then-is_none c = λ t d v low. climb_none t (gathered t (fork_of c.args.forking) v _) _ _ _ (c.loop.invariant t d v low) c.is_none.ensures c.if-is_none.true
 
 pub loop-preserved : goal.loop-preserved
-loop-preserved c = λ t d v low. gather_next t _ v _ _ _ _ (c.loop.invariant t d v low) (omega arith) c.is_none.ensures c.if-is_none.false _ _ (c.parent_before-cur.ensures t d) (c.with_worlds-worlds.ensures t d v low)
+loop-preserved c = λ t d v low. gather_next t _ v _ _ _ _ (c.loop.invariant t d v low) (omega arith) c.is_none.ensures c.if-is_none.false _ _ (c.parent_of-cur.ensures t d) (c.with_worlds-worlds.ensures t d v low)
 
 pub returns : goal.returns
 returns c = λ t d v low. climb_end t (gathered t (fork_of c.args.forking) v _) _ _ _ (c.loop.invariant t d v low) (omega arith)

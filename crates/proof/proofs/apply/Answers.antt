@@ -8,7 +8,7 @@ use Rattle.setting.specs.Asked.{asked}
 use Rattle.proof.proofs.apply.Goals as goal
 
 pub returns-in-AsPossible : goal.returns-in-AsPossible
-returns-in-AsPossible c = λ s recs q b. let F = asked c.args.setting in after_as s q (rule_possible F s _ recs _ ∙ ap (λ (r : Consequence). apply_rule F s c.args.x.0 recs (consequence_of r)) (sym c.in-AsPossible.is)) (c.apply_possibility.ensures s recs q b)
+returns-in-AsPossible c = λ s recs q b. let F = asked c.args.setting in after_as s q (rule_possible F s _ recs _ ∙ ap (λ (r : Consequence). apply_rule F s c.args.x.0 recs (consequence_of r)) (sym c.in-AsPossible.is)) (c.apply_possibility.ensures.after s recs q b)
 
 pub returns-in-AsNecessary : goal.returns-in-AsNecessary
 returns-in-AsNecessary c = λ s recs q b. let F = asked c.args.setting in after_as s q (rule_necessary F s _ recs _ ∙ ap (λ (r : Consequence). apply_rule F s c.args.x.0 recs (consequence_of r)) (sym c.in-AsNecessary.is)) (c.apply_necessity.ensures s recs q b)

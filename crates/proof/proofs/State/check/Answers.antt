@@ -1,0 +1,22 @@
+use mathlib.Core.Path.{◌∙◌}
+use Rattle.setting.specs.Asked.{asked}
+use Rattle.proof.proofs.Applying.{check_skipped, check_made, or_yes, or_no}
+use Rattle.proof.proofs.Going.{kept_as}
+use Rattle.proof.proofs.Stepping.{checked_held}
+use Rattle.proof.proofs.State.check.Goals as goal
+
+pub returns-then-setting : goal.returns-then-setting
+unfolding asked
+returns-then-setting c = λ s n l kp. kept_as (check_skipped _ s c.if-setting.true) kp
+
+pub returns-then-self : goal.returns-then-self
+unfolding asked
+returns-then-self c = λ s n l kp.
+    let every = c.check_for_contradictions-every.ensures in
+    checked_held _ s kp every.0 (λ h r p. let k = every.1 s.formulas s.nodes r n h (l c.if-setting.false) in check_made _ s c.if-setting.false k.0 (λ _. or_yes s _ p c.if-self.true))
+
+pub returns : goal.returns
+unfolding asked
+returns c = λ s n l kp.
+    let every = c.check_for_contradictions-every.ensures in
+    checked_held _ s kp every.0 (λ h r p. let k = every.1 s.formulas s.nodes r n h (l c.if-setting.false) in check_made _ s c.if-setting.false k.0 (λ small. k.1 small ∙ or_no s _ p c.if-self.false))
