@@ -1,57 +1,43 @@
--- The loop of `remove`: from the array of a list to that of the list without its element at i.
-use Prim.Native.Nat.{ℕ, ◌+◌, ◌-◌, ◌≤◌, ◌<◌}
-use mathlib.Core.Path.{◌≡◌, sym, ◌∙◌}
-use mathlib.Core.List.{List, ◌++◌}
+-- What `remove` leaves: the entries after the gap moved up, and a blank where the last one stood.
+use Prim.Native.Nat.{ℕ, suc, ◌+◌, ◌-◌, ◌≤◌, ◌<◌}
+use mathlib.Core.Path.{◌≡◌, ap, ◌∙◌}
+use mathlib.Core.List.{List, ◌∷◌, ◌++◌}
+use native.Mathlib.Numerals.{add-one}
 use native.Mathlib.Omega.{arith}
-use lib.ListN.{length, get_or, set, take, drop, length-append, length-take, length-drop, get_or-eq_default}
-use Rattle.std.proofs.lemmas.List.{get_or_default}
+use lib.ListN.{length, get_or, set, take, drop, replicate, length-drop, drop_of_length-le}
+use lib.Seq.{take_at, set_at, take-append-le, drop-append-le, drop-cons}
+use Rattle.std.specs.List.{copy_within}
 use Rattle.arrays.specs.Data.{without}
 use Rattle.arrays.specs.Table.{filled, Tabled, tabled}
-use Rattle.arrays.proofs.Filled.{length_filled, get_or_filled, take_filled, drop_filled, length_without, get_or_without, take_without, part_step, part_read, part_whole, part_begin}
+use Rattle.arrays.proofs.Filled.{length_without}
 use Rattle.arrays.proofs.Tabled.{tabled_counts, tabled_count, tabled_array}
 
--- the entries before j moved up, and those from j on as they were
-unfoldable pub moved : {A : Type 0} → ℕ → A → List A → ℕ → ℕ → List A
-moved room none l i j = take j (filled room none (without l i)) ++ drop j (filled room none l)
+module _ {A : Type 0} (room : ℕ) (none : A) (l : List A) (i : ℕ) (h : i < length l) (b : length l ≤ room) where
+  -- what follows the list, the place that falls free with it
+  cut : (m : ℕ) → suc m ≡ length l → (r : List A) → drop m (l ++ r) ≡ get_or l m none ∷ r
+  cut m e r =
+      drop-append-le m l r (omega arith) ∙ ap (λ (d : List A). d ++ r) (drop-cons l m none (omega arith) ∙ ap (λ (d : List A). get_or l m none ∷ d) (drop_of_length-le l {i = suc m} (omega arith)))
 
-module _ {A : Type 0} {room : ℕ} {none : A} {l : List A} {n : ℕ} {a : List A} (p : Tabled room none l n a) (g : n ≤ room) (i : ℕ) (h : i < n) where
-  shorter : length (without l i) + 1 ≡ n
-  shorter = length_without l i (omega (arith, tabled_count p g)) ∙ tabled_count p g
+  -- the entries moved up, where r follows the list
+  moved : (r : List A) → copy_within (l ++ r) (suc i) (length l) i ≡ without l i ++ (get_or l (length l - 1) none ∷ r)
+  unfolding without
+  moved r =
+      let m : i + (length l - suc i) ≡ length l - 1 = omega arith in
+      let e : length (drop (suc i) l) ≡ length l - suc i = length-drop (suc i) l in
+      rw (m, take-append-le i l r (omega arith), drop-append-le (suc i) l r (omega arith), take_at (drop (suc i) l) r (length l - suc i) e)
+      (ap (λ (d : List A). take i l ++ drop (suc i) l ++ d) (cut (length l - 1) (omega arith) r))
 
-  whole : length (filled room none l) ≡ room
-  whole = length_filled none room l (omega (arith, tabled_count p g))
+  pub closed : set (copy_within (filled room none l) (suc i) (length l) i) (length l - 1) none ≡ filled room none (without l i)
+  unfolding filled
+  closed =
+      let s : length (without l i) + 1 ≡ length l = length_without l i h in
+      let z : room - length (without l i) ≡ suc (room - length l) = omega arith in
+      rw (moved (replicate (room - length l) none), z) (set_at (without l i) _ (replicate (room - length l) none) none (length l - 1) (omega arith))
 
-  long : length (filled room none (without l i)) ≡ length (filled room none l)
-  long = length_filled none room (without l i) (omega (arith, shorter)) ∙ sym whole
-
-  pub gap_begin : a ≡ moved room none l i i
-  unfolding moved
-  gap_begin =
-      let e : length l ≡ n = tabled_count p g in
-      tabled_array p g
-      ∙ sym (part_begin none (filled room none (without l i)) (filled room none l) long i
-      (take_filled none room i (without l i) (omega (arith, shorter)) ∙ take_without l i (omega arith) ∙ sym (take_filled none room i l (omega arith))))
-
-  pub gap_step : (j : ℕ) (w : List A) (d : A) → i ≤ j → j < n - 1 → w ≡ moved room none l i j → set w j (get_or w (j + 1) d) ≡ moved room none l i (j + 1)
-  unfolding moved
-  gap_step j w d b c q =
-      let e : length l ≡ n = tabled_count p g in
-      let f : length (filled room none l) ≡ room = whole in
-      let m : length w ≡ room = rw q (simp (length-append, length-take, length-drop, long) (omega arith)) in
-      rw (get_or_default w (j + 1) d none (omega arith), q)
-      (part_step none (filled room none (without l i)) (filled room none l) long j _ (omega arith)
-      (part_read none (filled room none (without l i)) (filled room none l) long j (j + 1) (omega arith) (omega arith)
-      ∙ get_or_filled none room l (j + 1)
-      ∙ sym (get_or_without none l i j (omega arith) b)
-      ∙ sym (get_or_filled none room (without l i) j)))
-
-  pub gap_end : (j : ℕ) (w : List A) → j ≡ n - 1 → w ≡ moved room none l i j → Tabled room none (without l i) (n - 1) (set w (n - 1) none)
-  unfolding moved
-  gap_end j w c q =
-      let e : length l ≡ n = tabled_count p g in
-      let f : length (filled room none l) ≡ room = whole in
-      let s : length (without l i) + 1 ≡ n = shorter in
-      tabled (tabled_counts p) (omega arith) (omega arith)
-      (rw (← c, q)
-      (part_step none (filled room none (without l i)) (filled room none l) long j none (omega arith) (sym (get_or_filled none room (without l i) j ∙ get_or-eq_default (without l i) none (omega arith)))
-      ∙ part_whole none (filled room none (without l i)) (filled room none l) long (j + 1) (drop_filled none room (j + 1) (without l i) l (omega arith) (omega arith) (omega arith))))
+pub gap_closed : {A : Type 0} {room : ℕ} {none : A} {l : List A} {n : ℕ} {a : List A} → Tabled room none l n a → n ≤ room → (i : ℕ) → i < n → (w : List A)
+    → w ≡ copy_within a (i + 1) n i → Tabled room none (without l i) (n - 1) (set w (n - 1) none)
+gap_closed {room = room} {none = none} {l = l} {n = n} p g i h w q =
+    let e : length l ≡ n = tabled_count p g in
+    let s : length (without l i) + 1 ≡ length l = length_without l i (omega arith) in
+    tabled (tabled_counts p) (omega arith) (omega arith)
+    (rw (q, tabled_array p g, add-one, ← e) (closed room none l i (omega arith) (omega arith)))

@@ -6,18 +6,14 @@ use mathlib.Core.List.{[], ◌∷◌}
 use mathlib.Core.Logic.{◌⊎◌, inl, inr, ⊎_elim}
 use native.Mathlib.Omega.{arith}
 use lib.Dec.{eqb, ltb}
-use lib.ListN.{take, get_or-eq_default}
+use lib.ListN.{take}
 use borrow.Author.Tests.{eqb-true, ltb-true}
 use Rattle.definition.specs.Lists.{all, below}
-use Rattle.definition.specs.Records.{Atomic, Non, And, Or, Imply, BiImply, StrictImply, Possible, Necessary, Unknown, kind_of, number_of, arity, links}
+use Rattle.definition.specs.Records.{kind_of, number_of, arity, links}
 use Rattle.definition.proofs.Basics.Lists.{all_below, or_cases, not_true}
 use Rattle.formula.specs.declared.Record.{Record}
 use Rattle.formula.specs.Recorded.{rec_of}
-
--- the table has nine kinds
-unknown : (k : ℕ) → 8 < k → kind_of k ≡ Unknown
-unfolding kind_of
-unknown k h = get_or-eq_default (Atomic ∷ Non ∷ And ∷ Or ∷ Imply ∷ BiImply ∷ StrictImply ∷ Possible ∷ Necessary ∷ []) Unknown {n = k} (omega arith)
+use Rattle.formula.proofs.KindNumbers.{unknown}
 
 -- the kinds from lo to below hi have n links
 links_in : (n lo hi : ℕ) → all (λ j. ltb j lo || eqb n (arity (kind_of j))) (below hi) ≡ true → (k : ℕ) → lo ≤ k → k < hi → n ≡ arity (kind_of k)
@@ -29,7 +25,7 @@ module _ (x : Record) where
   -- ---- kinds
   pub kind_unknown : 8 < x.kind → ltb 8 (number_of (rec_of x).kind) ≡ true
   unfolding number_of
-  kind_unknown h = rw (unknown x.kind h)
+  kind_unknown h = rw (← unknown x.kind h)
 
   pub kind_known : x.kind ≤ 8 → ltb 8 (number_of (rec_of x).kind) ≡ false
   unfolding kind_of number_of
@@ -52,4 +48,4 @@ module _ (x : Record) where
   pub links_none : (x.kind ≡ 0) ⊎ (8 < x.kind) → [] ≡ links (rec_of x)
   unfolding arity kind_of number_of
   links_none (inl e) = links_by 0 (rw e)
-  links_none (inr h) = links_by 0 (rw (unknown x.kind h))
+  links_none (inr h) = links_by 0 (rw (← unknown x.kind h))

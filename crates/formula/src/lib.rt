@@ -34,6 +34,36 @@ pub enum Kind {
     Necessary = 8,
 }
 
+// A number that is no kind of the table.
+#[derive(Clone, Copy, Debug, PartialEq, Eq)]
+pub struct UnknownKind;
+
+impl TryFrom<u16> for Kind {
+    ghost use Rattle.std.specs.Prelude.{◌≡◌};
+    ghost use Rattle.definition.specs.Records.{kind_of};
+    ghost use Rattle.formula.specs.Kinds.{read_as};
+
+    type Error = UnknownKind;
+
+    ghost try_from_gives = { λ number kind. read_as kind ≡ kind_of number };
+
+    #[tactic(auto, using(crate::proofs::KindNumbers::unknown), unfolding(definition::specs::Records::kind_of))]
+    fn try_from(number: u16) -> Result<Kind, UnknownKind> {
+        match number {
+            0 => Ok(Kind::Atomic),
+            1 => Ok(Kind::Non),
+            2 => Ok(Kind::And),
+            3 => Ok(Kind::Or),
+            4 => Ok(Kind::Imply),
+            5 => Ok(Kind::BiImply),
+            6 => Ok(Kind::StrictImply),
+            7 => Ok(Kind::Possible),
+            8 => Ok(Kind::Necessary),
+            _ => Err(UnknownKind),
+        }
+    }
+}
+
 // The number of a record that is not there, as a kind.
 const UNKNOWN: u16 = 9;
 
@@ -184,14 +214,14 @@ impl Formulas {
 }
 
 // A kind's number; 9 for a number that is no kind of the table.
-#[tactic(auto, unfolding(definition::specs::Records::number_of, definition::specs::Records::kind_of))]
+#[tactic(auto, using(crate::proofs::KindNumbers::number_known), unfolding(definition::specs::Records::number_of))]
 fn known_kind(kind: u16) -> u16
     ensures { result ≡ number_of (kind_of kind) }
 {
-    if 8 < kind {
-        return UNKNOWN;
+    match Kind::try_from(kind) {
+        Ok(known) => known as u16,
+        Err(_) => UNKNOWN,
     }
-    kind
 }
 
 // The class by the outer kind and, under Non, the inner kind: 0 is first, 1 in the middle, 2 last.

@@ -14,19 +14,19 @@ use Rattle.definition.specs.Lists.{any, below}
 use Rattle.definition.specs.Graph.{Graph, edge, graph_of, empty_graph, add_missing_reflexive_vertices, add_missing_symmetric_vertices, paired, add_missing_transitive_vertices}
 use Rattle.definition.proofs.Basics.Lists.{true_false, and_left, and_right, or_cases, either, any_below}
 use Rattle.definition.proofs.Soundness.Edges.{edge_graph}
-use Rattle.graph.specs.Drawn.{flag, grid, Drawn}
+use Rattle.graph.specs.Drawn.{grid, Drawn}
 use Rattle.graph.proofs.Grid.{edge_of, grid_cell, grid_by, grid_same}
 use Rattle.graph.proofs.Scan.{any_false}
 
--- no world, and an array of zeros
-pub drawn_none : Drawn empty_graph 0 (replicate edge_cells 0)
+-- no world, and an array of no flag
+pub drawn_none : Drawn empty_graph 0 (replicate edge_cells false)
 unfolding empty_graph edge
 drawn_none =
     record {
       count = refl;
       room = omega arith;
       inside = λ u v h. true_false (sym h);
-      cells = grid_by (replicate edge_cells 0) (edge empty_graph) (length-replicate {A = ℕ} edge_cells 0) (λ k h. get_or-replicate edge_cells k 0 0 h);
+      cells = grid_by (replicate edge_cells false) (edge empty_graph) (length-replicate {A = Bool} edge_cells false) (λ k h. get_or-replicate edge_cells k false false h);
     }
 
 -- the edges that each scan adds
@@ -42,18 +42,14 @@ paths g u w = any (paired g u w) (below g.worlds)
 abbrev pub transitives : Graph → ℕ → ℕ → Bool
 transitives g u w = edge g u w || paths g u w
 
-module _ {g : Graph} {n : ℕ} {a : List ℕ} (d : Drawn g n a) where
+module _ {g : Graph} {n : ℕ} {a : List Bool} (d : Drawn g n a) where
   -- an edge between other worlds is none
   pub drawn_out : (u v : ℕ) → (n ≤ u) ⊎ (n ≤ v) → edge g u v ≡ false
   drawn_out u v h =
       ⊎_elim (λ t. let i = d.inside u v t in absurd (⊎_elim (λ k. omega (arith, i.0)) (λ k. omega (arith, i.1)) h)) (λ t. t) (either (edge g u v))
 
-  pub drawn_cell : (u v : ℕ) → u < graph_width → v < graph_width → eqb (get_or a (u * graph_width + v) 0) 1 ≡ edge g u v
-  drawn_cell u v hu hv = ap (λ (l : List ℕ). eqb (get_or l (u * graph_width + v) 0) 1) d.cells ∙ rw (grid_cell (edge g) u v hu hv) (go (edge g u v))
-    where
-      go : (b : Bool) → eqb (flag b) 1 ≡ b
-      go true = refl
-      go false = refl
+  pub drawn_cell : (u v : ℕ) → u < graph_width → v < graph_width → get_or a (u * graph_width + v) false ≡ edge g u v
+  drawn_cell u v hu hv = ap (λ (l : List Bool). get_or l (u * graph_width + v) false) d.cells ∙ grid_cell (edge g) u v hu hv
 
   -- no scan adds an edge between other worlds
   pub symmetrics_out : (u v : ℕ) → n ≤ u → symmetrics g u v ≡ false
@@ -83,7 +79,7 @@ within u v n false h = go (ltb u n) (ltb v n)
     go false y = refl
 
 -- the graph of n worlds with the edges e, from the array of those that run between its worlds
-pub drawn_graph : (n m : ℕ) (e f : ℕ → ℕ → Bool) {a : List ℕ} → n ≡ m → n ≤ graph_width → ((u v : ℕ) → f u v ≡ (ltb u n && (ltb v n && e u v))) → a ≡ grid f → Drawn (graph_of m e) n a
+pub drawn_graph : (n m : ℕ) (e f : ℕ → ℕ → Bool) {a : List Bool} → n ≡ m → n ≤ graph_width → ((u v : ℕ) → f u v ≡ (ltb u n && (ltb v n && e u v))) → a ≡ grid f → Drawn (graph_of m e) n a
 unfolding graph_of
 drawn_graph n m e f c h k q =
     record {
@@ -93,7 +89,7 @@ drawn_graph n m e f c h k q =
       cells = q ∙ grid_same f (edge (graph_of m e)) (λ u v hu hv. k u v ∙ rw c (sym (edge_of m e u v)));
     }
 
-module _ {g : Graph} {n : ℕ} {a b : List ℕ} (d : Drawn g n a) where
+module _ {g : Graph} {n : ℕ} {a b : List Bool} (d : Drawn g n a) where
   pub drawn_reflexive : b ≡ grid (λ u v. edge g u v || reflexives n u v) → Drawn (add_missing_reflexive_vertices g) n b
   unfolding add_missing_reflexive_vertices
   drawn_reflexive q =

@@ -31,12 +31,12 @@ pub ran_all : (F : Setting) {x y z w : Rust.Graph} → Ran F.reflexive add_missi
 unfolding add_missing_graph_vertices
 ran_all F r s t g p = after t _ (after s _ (after r g p))
 
-module _ (F : Setting) {g : Graph} {n : ℕ} {a : List ℕ} (d : Drawn g n a) where
+module _ (F : Setting) {g : Graph} {n : ℕ} {a : List Bool} (d : Drawn g n a) where
   pub init_kept : n ≢ 0 → Drawn (initialize_graph_if_needed F g) n a
   unfolding initialize_graph_if_needed
   init_kept h = rw (ne_eqb g.worlds 0 (λ q. h (d.count ∙ q))) d
 
-  pub init_made : {m : ℕ} {b : List ℕ} → n ≡ 0 → ((h : Graph) → Drawn h 1 a → Drawn (add_missing_graph_vertices F h) m b) → Drawn (initialize_graph_if_needed F g) m b
+  pub init_made : {m : ℕ} {b : List Bool} → n ≡ 0 → ((h : Graph) → Drawn h 1 a → Drawn (add_missing_graph_vertices F h) m b) → Drawn (initialize_graph_if_needed F g) m b
   unfolding initialize_graph_if_needed
   init_made z fill =
       let none : ℕ → ℕ → Bool = λ u v. false in
@@ -69,7 +69,7 @@ module _ (F : Setting) {g : Graph} {n : ℕ} {a : List ℕ} (d : Drawn g n a) wh
       outside true q false false t h = refl
       outside false q e s t h = refl
 
-  pub fork_made : (u : ℕ) {f w m : ℕ} {b c : List ℕ} → f ≡ min n 65535 → n < graph_width → ((e : ℕ → ℕ → Bool) → a ≡ grid e → b ≡ grid (cond (leb u f) (with_vertex e u f) e)) →
+  pub fork_made : (u : ℕ) {f w m : ℕ} {b c : List Bool} → f ≡ min n 65535 → n < graph_width → ((e : ℕ → ℕ → Bool) → a ≡ grid e → b ≡ grid (cond (leb u f) (with_vertex e u f) e)) →
       w ≡ n → ((h : Graph) → Drawn h (w + 1) b → Drawn (add_missing_graph_vertices F h) m c) → Drawn (fork F g u) m c
   unfolding fork
   fork_made u {f} q k put e fill =

@@ -15,7 +15,7 @@ use Rattle.definition.specs.Lists.{up_from, below}
 use Rattle.definition.specs.Graph.{edge, graph_of}
 use Rattle.definition.proofs.Basics.Lists.{either}
 use Rattle.definition.proofs.Basics.Identifiers.{length_from}
-use Rattle.graph.specs.Drawn.{flag, grid, with_vertex}
+use Rattle.graph.specs.Drawn.{grid, with_vertex}
 
 -- element k of a rule's list, or the default past its end
 pub at_from : {A : Type 0} (f : ℕ → A) (n i j k : ℕ) (d : A) → i + k ≡ j → get_or (map f (up_from n i)) k d ≡ cond (ltb k n) (f j) d
@@ -38,24 +38,24 @@ edge_of n e u v = ap (λ (r : List Bool). get_or r v false) (at_from (λ a. map 
 
 pub grid_length : (e : ℕ → ℕ → Bool) → length (grid e) ≡ edge_cells
 unfolding grid
-grid_length e = length-map (below edge_cells) (λ k. flag (e (k / graph_width) (k % graph_width))) ∙ length_from edge_cells 0
+grid_length e = length-map (below edge_cells) (λ k. e (k / graph_width) (k % graph_width)) ∙ length_from edge_cells 0
 
-pub grid_at : (e : ℕ → ℕ → Bool) (k : ℕ) → k < edge_cells → get_or (grid e) k 0 ≡ flag (e (k / graph_width) (k % graph_width))
+pub grid_at : (e : ℕ → ℕ → Bool) (k : ℕ) → k < edge_cells → get_or (grid e) k false ≡ e (k / graph_width) (k % graph_width)
 unfolding grid
-grid_at e k h = at_from (λ j. flag (e (j / graph_width) (j % graph_width))) edge_cells 0 k k 0 (omega arith) ∙ rw (lt-ltb k edge_cells h)
+grid_at e k h = at_from (λ j. e (j / graph_width) (j % graph_width)) edge_cells 0 k k false (omega arith) ∙ rw (lt-ltb k edge_cells h)
 
-pub grid_cell : (e : ℕ → ℕ → Bool) (u v : ℕ) → u < graph_width → v < graph_width → get_or (grid e) (u * graph_width + v) 0 ≡ flag (e u v)
+pub grid_cell : (e : ℕ → ℕ → Bool) (u v : ℕ) → u < graph_width → v < graph_width → get_or (grid e) (u * graph_width + v) false ≡ e u v
 grid_cell e u v hu hv =
     let p : (u * graph_width + v) / graph_width ≡ u = omega arith in
     let q : (u * graph_width + v) % graph_width ≡ v = omega arith in
     grid_at e (u * graph_width + v) (omega arith) ∙ rw (p, q)
 
 -- an array that has these edges' flag at each place is their array
-pub grid_by : (a : List ℕ) (e : ℕ → ℕ → Bool) → length a ≡ edge_cells → ((k : ℕ) → k < edge_cells → get_or a k 0 ≡ flag (e (k / graph_width) (k % graph_width))) → a ≡ grid e
-grid_by a e l h = ext_get_or 0 a (grid e) (l ∙ sym (grid_length e)) (λ k b. let m : k < edge_cells = omega arith in h k m ∙ sym (grid_at e k m))
+pub grid_by : (a : List Bool) (e : ℕ → ℕ → Bool) → length a ≡ edge_cells → ((k : ℕ) → k < edge_cells → get_or a k false ≡ e (k / graph_width) (k % graph_width)) → a ≡ grid e
+grid_by a e l h = ext_get_or false a (grid e) (l ∙ sym (grid_length e)) (λ k b. let m : k < edge_cells = omega arith in h k m ∙ sym (grid_at e k m))
 
 pub grid_same : (e f : ℕ → ℕ → Bool) → ((u v : ℕ) → u < graph_width → v < graph_width → e u v ≡ f u v) → grid e ≡ grid f
-grid_same e f h = grid_by (grid e) f (grid_length e) (λ k b. grid_at e k b ∙ ap flag (h (k / graph_width) (k % graph_width) (omega arith) (omega arith)))
+grid_same e f h = grid_by (grid e) f (grid_length e) (λ k b. grid_at e k b ∙ h (k / graph_width) (k % graph_width) (omega arith) (omega arith))
 
 -- ---- one edge more
 pub with_hit : (e : ℕ → ℕ → Bool) (u v a b : ℕ) → a ≡ u → b ≡ v → with_vertex e u v a b ≡ true
@@ -72,16 +72,16 @@ with_miss e u v a b h = go (e a b) (eqb a u) (eqb b v) (λ p q. h (eqb-true a u 
     go false true false n = refl
     go false false z n = refl
 
-pub grid_set : {a : List ℕ} (e : ℕ → ℕ → Bool) (u v : ℕ) → a ≡ grid e → u < graph_width → v < graph_width → set a (u * graph_width + v) 1 ≡ grid (with_vertex e u v)
+pub grid_set : {a : List Bool} (e : ℕ → ℕ → Bool) (u v : ℕ) → a ≡ grid e → u < graph_width → v < graph_width → set a (u * graph_width + v) true ≡ grid (with_vertex e u v)
 grid_set e u v q hu hv =
     let i = u * graph_width + v in
-    rw q (grid_by (set (grid e) i 1) (with_vertex e u v) (length-set (grid e) i 1 ∙ grid_length e) (λ k b.
+    rw q (grid_by (set (grid e) i true) (with_vertex e u v) (length-set (grid e) i true ∙ grid_length e) (λ k b.
     ⊎_elim
     (λ t. let s : k ≡ i = eqb-true k i t in
-    ap (λ (j : ℕ). get_or (set (grid e) i 1) j 0) s ∙ get_or-set_same (grid e) i 1 0 (omega (arith, grid_length e))
-    ∙ sym (ap flag (with_hit e u v (k / graph_width) (k % graph_width) (omega arith) (omega arith))))
-    (λ t. get_or-set_other (grid e) i k 1 0 (eqb-false k i t) ∙ grid_at e k b
-    ∙ sym (ap flag (with_miss e u v (k / graph_width) (k % graph_width) (λ s r. eqb-false k i t (omega arith)))))
+    ap (λ (j : ℕ). get_or (set (grid e) i true) j false) s ∙ get_or-set_same (grid e) i true false (omega (arith, grid_length e))
+    ∙ sym (with_hit e u v (k / graph_width) (k % graph_width) (omega arith) (omega arith)))
+    (λ t. get_or-set_other (grid e) i k true false (eqb-false k i t) ∙ grid_at e k b
+    ∙ sym (with_miss e u v (k / graph_width) (k % graph_width) (λ s r. eqb-false k i t (omega arith))))
     (either (eqb k i))))
 
 pub grid_out : (e : ℕ → ℕ → Bool) (u v : ℕ) → (graph_width ≤ u) ⊎ (graph_width ≤ v) → grid e ≡ grid (with_vertex e u v)

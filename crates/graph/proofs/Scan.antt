@@ -66,7 +66,7 @@ module _ (e x : ℕ → ℕ → Bool) where
       (either (ltb (u * graph_width + v) n)))
 
   -- a turn of the scan, where the edge is added just if it is missing
-  pub scan_next : (n u v : ℕ) (b : Bool) (a a' : List ℕ) → (u ≡ n / graph_width) × (v ≡ n % graph_width) → b ≡ x u v → a ≡ grid (scanned e x n) →
+  pub scan_next : (n u v : ℕ) (b : Bool) (a a' : List Bool) → (u ≡ n / graph_width) × (v ≡ n % graph_width) → b ≡ x u v → a ≡ grid (scanned e x n) →
       ((d : ℕ → ℕ → Bool) → a ≡ grid d → a' ≡ grid (cond b (with_vertex d u v) d)) → a' ≡ grid (scanned e x (n + 1))
   scan_next n u v b a a' at q h put =
       let d = cond b (with_vertex (scanned e x n) u v) (scanned e x n) in

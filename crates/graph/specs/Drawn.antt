@@ -1,25 +1,21 @@
--- The edges in an array of flags, `graph_width` rows of as many: row u, column v stands at u * graph_width + v, and is 1 where u reaches v, else 0.
-use Rattle.std.specs.Prelude.{ℕ, ◌/◌, ◌%◌, ◌≤◌, ◌<◌, ◌≡◌, Bool, true, false, ◌&&◌, ◌||◌, List, map, eqb}
+-- The edges in an array of flags, `graph_width` rows of as many: row u, column v stands at u * graph_width + v, and tells whether u reaches v.
+use Rattle.std.specs.Prelude.{ℕ, ◌/◌, ◌%◌, ◌≤◌, ◌<◌, ◌≡◌, Bool, true, ◌&&◌, ◌||◌, List, map, eqb}
 use Rattle.definition.specs.Limits.{graph_width}
 use Rattle.limits.specs.Arrays.{edge_cells}
 use Rattle.definition.specs.Lists.{below}
 use Rattle.definition.specs.Graph.{Graph, edge}
 use Rattle.graph.specs.declared.Graph as Rust
 
-abbrev pub flag : Bool → ℕ
-flag true = 1
-flag false = 0
-
 -- the array of these edges, as far as they run between worlds below `graph_width`
-unfoldable pub grid : (ℕ → ℕ → Bool) → List ℕ
-grid e = map (λ k. flag (e (k / graph_width) (k % graph_width))) (below edge_cells)
+unfoldable pub grid : (ℕ → ℕ → Bool) → List Bool
+grid e = map (λ k. e (k / graph_width) (k % graph_width)) (below edge_cells)
 
 -- these edges, and the one from u to v
 unfoldable pub with_vertex : (ℕ → ℕ → Bool) → ℕ → ℕ → ℕ → ℕ → Bool
 with_vertex e u v a b = e a b || (eqb a u && eqb b v)
 
 -- a graph of at most `graph_width` worlds, between which its edges run, with the count of its worlds and its array
-pub record Drawn (g : Graph) (n : ℕ) (a : List ℕ) : Type 0 where
+pub record Drawn (g : Graph) (n : ℕ) (a : List Bool) : Type 0 where
   pub count : n ≡ g.worlds
   pub room : n ≤ graph_width
   pub inside : (u v : ℕ) → edge g u v ≡ true → (u < n) × (v < n)

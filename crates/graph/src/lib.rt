@@ -41,7 +41,7 @@ pub struct GraphVertex {
 // The edges, a row of GRAPH_WIDTH flags for each world, and how many worlds there are.
 #[derive(Clone, Copy)]
 pub struct Graph {
-    pub edges: [u8; EDGE_CELLS],
+    pub edges: [bool; EDGE_CELLS],
     pub worlds: usize,
 }
 
@@ -54,7 +54,7 @@ impl Graph {
         ensures { HasGraph empty_graph result }
     {
         Graph {
-            edges: [0; EDGE_CELLS],
+            edges: [false; EDGE_CELLS],
             worlds: 0,
         }
     }
@@ -72,7 +72,7 @@ impl Graph {
         if GRAPH_WIDTH <= to {
             return false;
         }
-        self.edges[from * GRAPH_WIDTH + to] == 1
+        self.edges[from * GRAPH_WIDTH + to]
     }
 
     // One edge more, where both worlds have a place.
@@ -88,7 +88,7 @@ impl Graph {
         if GRAPH_WIDTH <= to {
             return;
         }
-        self.edges[from * GRAPH_WIDTH + to] = 1;
+        self.edges[from * GRAPH_WIDTH + to] = true;
     }
 
     // The missing edges: reflexive, symmetric, transitive, each if flagged.

@@ -1,25 +1,34 @@
 -- What code has of a token, and what stands at a place of an array of tokens.
 use Rattle.std.specs.Prelude.{◌≡◌, List, [], ◌∷◌, ℕ, zero, suc, ◌+◌, ◌-◌, ◌<◌, get_or}
 use Rattle.definition.specs.Limits.{most_text}
-use Rattle.definition.specs.Records.{Non, And, Or, Imply, BiImply, StrictImply, Possible, Necessary, number_of}
+use Rattle.definition.specs.Records.{number_of}
+use Rattle.formula.specs.Kinds.{kind_meant}
+use Rattle.formula.specs.declared.Kind.{Kind}
 use Rattle.grammar.specs.Tokens as G
 use Rattle.grammar.specs.Tokens.{Token, name, sign, joint, opening, closing, newline, invalid}
 use Rattle.lexer.specs.declared.Sign.{Sign}
 use Rattle.lexer.specs.declared.Joint.{Joint}
 use Rattle.lexer.specs.declared.Word.{Word}
 
--- the numbers of the kinds
+-- the kinds that they make
+abbrev pub sign_made : Sign → Kind
+sign_made Sign.Non = Kind.Non
+sign_made Sign.Possible = Kind.Possible
+sign_made Sign.Necessary = Kind.Necessary
+
+abbrev pub joint_made : Joint → Kind
+joint_made Joint.And = Kind.And
+joint_made Joint.Or = Kind.Or
+joint_made Joint.Imply = Kind.Imply
+joint_made Joint.BiImply = Kind.BiImply
+joint_made Joint.StrictImply = Kind.StrictImply
+
+-- and their numbers
 abbrev pub sign_kind : Sign → ℕ
-sign_kind Sign.Non = number_of Non
-sign_kind Sign.Possible = number_of Possible
-sign_kind Sign.Necessary = number_of Necessary
+sign_kind s = number_of (kind_meant (sign_made s))
 
 abbrev pub joint_kind : Joint → ℕ
-joint_kind Joint.And = number_of And
-joint_kind Joint.Or = number_of Or
-joint_kind Joint.Imply = number_of Imply
-joint_kind Joint.BiImply = number_of BiImply
-joint_kind Joint.StrictImply = number_of StrictImply
+joint_kind j = number_of (kind_meant (joint_made j))
 
 -- the grammar's tokens in code
 abbrev pub sign_word : G.Sign → Sign

@@ -11,43 +11,76 @@ ghost use Rattle.lexer.specs.Bytes.{Atomic, name_by_digits, SpelledAs, Begins, S
 ghost use Rattle.lexer.specs.Steps.{state_of, depth_of, FollowedAs};
 ghost use Rattle.lexer.specs.Scanned.{ScannedAs};
 
+use formula::Kind;
 use limits::MOST_TEXT;
 
-// What stands before one formula; `as` gives the number of the kind that it makes.
+// What stands before one formula.
 #[derive(Clone, Copy, Debug, PartialEq, Eq)]
 pub enum Sign {
-    Non = 1,
-    Possible = 7,
-    Necessary = 8,
+    Non,
+    Possible,
+    Necessary,
 }
 
-impl Sign {
-    // The number of the kind.
-    #[tactic(auto, unfolding(definition::specs::Records::number_of))]
-    pub fn kind(self) -> u8
-        ensures { result ≡ sign_kind self }
-    {
-        self as u8
+impl From<Sign> for Kind {
+    ghost use Rattle.std.specs.Prelude.{◌≡◌};
+    ghost use Rattle.lexer.specs.Words.{sign_made};
+
+    ghost from_gives = { λ sign kind. kind ≡ sign_made sign };
+
+    fn from(sign: Sign) -> Kind {
+        match sign {
+            Sign::Non => Kind::Non,
+            Sign::Possible => Kind::Possible,
+            Sign::Necessary => Kind::Necessary,
+        }
     }
 }
 
-// What stands between two formulas; `as` gives the number of the kind that it makes.
+impl Sign {
+    // The number of the kind that it makes.
+    #[tactic(auto, using(formula::proofs::KindNumbers::number_of_tag))]
+    pub fn kind(self) -> u8
+        ensures { result ≡ sign_kind self }
+    {
+        Kind::from(self) as u8
+    }
+}
+
+// What stands between two formulas.
 #[derive(Clone, Copy, Debug, PartialEq, Eq)]
 pub enum Joint {
-    And = 2,
-    Or = 3,
-    Imply = 4,
-    BiImply = 5,
-    StrictImply = 6,
+    And,
+    Or,
+    Imply,
+    BiImply,
+    StrictImply,
+}
+
+impl From<Joint> for Kind {
+    ghost use Rattle.std.specs.Prelude.{◌≡◌};
+    ghost use Rattle.lexer.specs.Words.{joint_made};
+
+    ghost from_gives = { λ joint kind. kind ≡ joint_made joint };
+
+    fn from(joint: Joint) -> Kind {
+        match joint {
+            Joint::And => Kind::And,
+            Joint::Or => Kind::Or,
+            Joint::Imply => Kind::Imply,
+            Joint::BiImply => Kind::BiImply,
+            Joint::StrictImply => Kind::StrictImply,
+        }
+    }
 }
 
 impl Joint {
-    // The number of the kind.
-    #[tactic(auto, unfolding(definition::specs::Records::number_of))]
+    // The number of the kind that it makes.
+    #[tactic(auto, using(formula::proofs::KindNumbers::number_of_tag))]
     pub fn kind(self) -> u8
         ensures { result ≡ joint_kind self }
     {
-        self as u8
+        Kind::from(self) as u8
     }
 }
 
@@ -65,6 +98,7 @@ pub enum Word {
 }
 
 // The tokens of a text from the first place on, and the end behind them.
+// No ArrayVec: whoever reads asks for the token at a place, beyond the last too, and nobody for their count.
 pub type Words = [Word; MOST_TEXT];
 
 // Why a text has no tokens that can be read.
@@ -270,6 +304,7 @@ fn scan_words(text: &[u8], words: &mut Words) -> Result<(), ScanError>
     let mut at = 0;
     let mut count = 0;
     let mut awaited = Awaited::Line;
+    // No range of places: it would need a case for its own end, which no text comes to.
     loop {
         let next = next_token(text, at);
         if next.word == Word::End {

@@ -9,6 +9,7 @@ ghost use Rattle.lexer.specs.Words.{joint_kind, joint_of};
 ghost use Rattle.reader.specs.Contract.{ReadText, LinesWritten};
 ghost use Rattle.reader.specs.Levels.{last_leftward, Parsed, Grouped, Puts, JointAt, Closed, LinesRead};
 
+use formula::Kind;
 use lexer::{Joint, ScanError, Word, Words, scan, word_at};
 use limits::{MOST_TEXT, RECORD_LENGTH, TEXT_TRAY_LENGTH, TextRecords};
 use refusal::{Reason, Refusal};
@@ -18,9 +19,6 @@ const LOOSEST: u8 = 4;
 
 // Up to this level & and | group to the left, above it the arrows to the right.
 const LAST_LEFTWARD: u8 = 2;
-
-// The kind of an atom's record; the others' are the discriminants of signs and joints, the words that stand for them.
-const ATOMIC: u8 = 0;
 
 // Why a text is not read.
 #[derive(Clone, Copy, Debug, PartialEq, Eq)]
@@ -60,6 +58,7 @@ impl From<ScanError> for TextError {
 }
 
 // The records that are made, as bytes, and zeros behind them.
+// No ArrayVec: all the bytes are written to the tray, the zeros too.
 #[derive(Drop)]
 struct Records {
     bytes: TextRecords,
@@ -214,7 +213,7 @@ fn operand(words: &Words, at: usize, records: &mut Records) -> Option<usize>
 {
     match word_at(words, at) {
         Word::Name(number) => {
-            records.push(ATOMIC, number, 0);
+            records.push(Kind::Atomic as u8, number, 0);
             Some(at + 1)
         }
         Word::Sign(sign) => {

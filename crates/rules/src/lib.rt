@@ -87,7 +87,7 @@ fn rule_of(outer: u16, inner: u16) -> LogicRule
 fn ruled_formula(outer: u16, f: FormulaNumber, denied: FormulaNumber) -> FormulaNumber
     ensures { result.0 ≡ ruled outer f.0 denied.0 }
 {
-    if outer == 1 {
+    if outer == Kind::Non as u16 {
         return denied;
     }
     f
@@ -218,11 +218,7 @@ pub fn expand(formulas: &mut Formulas, f: FormulaNumber) -> Consequence
 fn with_middle_node(start: ProofTreeNodeID, count: u16) -> ProofSubtree
     ensures { result ≡ in_middle start.0 count }
 {
-    ProofSubtree::with_middle(Chain {
-        start,
-        count,
-        rising: false,
-    })
+    ProofSubtree::with_middle(Chain::falling(start, count))
 }
 
 // Two chains of as many identifiers: the left from `start` on, the right from `further` on.
@@ -234,17 +230,9 @@ fn with_left_right_nodes(
     ensures { result ≡ in_left_right start.0 further.0 count }
 {
     ProofSubtree {
-        left: Chain {
-            start,
-            count,
-            rising: false,
-        },
+        left: Chain::falling(start, count),
         middle: Chain::EMPTY,
-        right: Chain {
-            start: further,
-            count,
-            rising: false,
-        },
+        right: Chain::falling(further, count),
     }
 }
 

@@ -58,7 +58,7 @@ row_numbers g = padded edge_tray_length (map row_number g.rows)
 abbrev pub Edges : Graph → List ℕ → ℕ → List ℕ → Type 0
 Edges g lent u tray = Writing (row_numbers g) (drop u (row_numbers g)) lent u tray
 
-module _ (g : Graph) {n : ℕ} {a : List ℕ} (drawn : Drawn g n a) (square : length g.rows ≡ g.worlds) where
+module _ (g : Graph) {n : ℕ} {a : List Bool} (drawn : Drawn g n a) (square : length g.rows ≡ g.worlds) where
   pub row_fits : Each (λ (row : List Bool). length row ≡ g.worlds) g.rows → (u : ℕ) → length (row_of g u) ≤ graph_width
   row_fits h u =
       let w : g.worlds ≤ graph_width = omega (arith, drawn.count, drawn.room) in

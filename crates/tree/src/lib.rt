@@ -96,13 +96,24 @@ pub struct Chain {
 }
 
 impl Chain {
-    ghost use Rattle.tree.specs.Chain.{chain_of, ChainBelow, Spans};
+    ghost use Rattle.tree.specs.Chain.{chain_of, falling_chain, ChainBelow, Spans};
 
     pub const EMPTY: Chain = Chain {
         start: ProofTreeNodeID(0),
         count: 0,
         rising: true,
     };
+
+    // So many identifiers from `start` on, the last on top.
+    pub fn falling(start: ProofTreeNodeID, count: u16) -> Chain
+        ensures { result ≡ falling_chain start.0 count }
+    {
+        Chain {
+            start,
+            count,
+            rising: false,
+        }
+    }
 
     // The chain with one identifier more, at its lower end.
     fn extended(self, id: ProofTreeNodeID) -> Chain
