@@ -29,7 +29,7 @@ fn with_bit(word: u32, i: usize) -> u32
 }
 
 // A set of numbers below LEAF_COUNT: MOST_IDENTIFIERS rows of as many bits.
-#[derive(Drop)]
+#[derive(Clone, Copy)]
 pub struct LeafTable {
     pub words: [u32; LEAF_WORDS],
 }

@@ -96,7 +96,7 @@ impl Record {
 }
 
 // The records in their table.
-#[derive(Drop)]
+#[derive(Clone, Copy)]
 pub struct Formulas {
     pub records: Table<Record, MOST_FORMULAS>,
 }
@@ -235,9 +235,9 @@ fn priority_by(outer: u16, inner: u16) -> u16
         1 => match inner {
             0 => 2,
             2 | 5 => 1,
-            _ => 0,
+            1 | 3..=4 | 6..=65535 => 0,
         },
         3..=5 => 1,
-        _ => 0,
+        2 | 6..=65535 => 0,
     }
 }

@@ -10,9 +10,10 @@ use Rattle.std.specs.List.{list_any, range_with_len}
 use lib.Dec.{ltb, eqb}
 use borrow.Author.Tests.{ltb-true, ltb-false, eqb-true, eqb-false, lt-ltb, le-ltb}
 use Rattle.definition.specs.Limits.{graph_width}
+use Rattle.limits.specs.Arrays.{edge_cells}
 use Rattle.definition.specs.Lists.{any, up_from}
 use Rattle.definition.proofs.Basics.Lists.{either}
-use Rattle.graph.specs.Drawn.{grid, with_vertex}
+use Rattle.graph.specs.Drawn.{grid, with_vertex, looked}
 use Rattle.graph.proofs.Grid.{grid_same, with_hit, with_miss}
 
 -- the edges e, with those of the first n pairs that the rule x gives
@@ -79,8 +80,29 @@ module _ (e x : ℕ → ℕ → Bool) where
       (λ k. there n u v s t b place (eqb-false (s * graph_width + t) n k))
       (either (eqb (s * graph_width + t) n)))
 
+-- ---- the row of a world
+-- what the lookup ensures of its second world
+pub looked_is : (u v a b : ℕ) → (u * graph_width + v < edge_cells → (a ≡ (u * graph_width + v) / graph_width) × (b ≡ (u * graph_width + v) % graph_width))
+    × (edge_cells ≤ u * graph_width + v → (a ≡ 0) × (b ≡ 0)) → b ≡ looked u v
+unfolding looked
+looked_is u v a b h =
+    ⊎_elim
+    (λ t. rw t (h.0 (ltb-true (u * graph_width + v) edge_cells t)).1)
+    (λ t. rw t (h.1 (ltb-false (u * graph_width + v) edge_cells t)).1)
+    (either (ltb (u * graph_width + v) edge_cells))
+
+-- place v of the row of u, of a graph of n worlds
+pub row_pair : (u v n : ℕ) → n ≤ graph_width → u < n → v < n → looked u v ≡ v
+unfolding looked
+row_pair u v n room hu hv = rw (lt-ltb (u * graph_width + v) edge_cells (omega arith)) (omega arith)
+
 -- ---- a search through the numbers below n
 module _ (p : ℕ → Bool) where
+  -- by the row of u
+  pub at_row : (u n m i : ℕ) → n ≤ graph_width → u < n → i + m ≤ n → list_any (λ v. p (looked u v)) (range_with_len i m) ≡ list_any p (range_with_len i m)
+  at_row u n zero i room hu h = refl
+  at_row u n (suc m) i room hu h = rw (row_pair u i n room hu (omega arith)) (ap (λ (b : Bool). p i || b) (at_row u n m (i + 1) room hu (omega arith)))
+
   pub any_false : (n i : ℕ) → ((v : ℕ) → i ≤ v → p v ≡ false) → any p (up_from n i) ≡ false
   any_false zero i h = refl
   any_false (suc n) i h = rw (h i (omega arith)) (any_false n (suc i) (λ v k. h v (omega arith)))

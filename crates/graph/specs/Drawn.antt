@@ -1,5 +1,5 @@
 -- The edges in an array of flags, `graph_width` rows of as many: row u, column v stands at u * graph_width + v, and tells whether u reaches v.
-use Rattle.std.specs.Prelude.{ℕ, ◌/◌, ◌%◌, ◌≤◌, ◌<◌, ◌≡◌, Bool, true, ◌&&◌, ◌||◌, List, map, eqb}
+use Rattle.std.specs.Prelude.{ℕ, ◌+◌, ◌*◌, ◌/◌, ◌%◌, ◌≤◌, ◌<◌, ◌≡◌, Bool, true, cond, ◌&&◌, ◌||◌, List, map, eqb, ltb}
 use Rattle.definition.specs.Limits.{graph_width}
 use Rattle.limits.specs.Arrays.{edge_cells}
 use Rattle.definition.specs.Lists.{below}
@@ -24,3 +24,7 @@ pub record Drawn (g : Graph) (n : ℕ) (a : List Bool) : Type 0 where
 -- the struct holds the graph
 abbrev pub HasGraph : Graph → Rust.Graph → Type 0
 HasGraph g x = Drawn g x.worlds x.edges
+
+-- the second world of pair v of the row of u, as the lookup gives it: past the last pair, the first world
+unfoldable pub looked : ℕ → ℕ → ℕ
+looked u v = cond (ltb (u * graph_width + v) edge_cells) ((u * graph_width + v) % graph_width) 0

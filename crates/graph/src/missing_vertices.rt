@@ -1,5 +1,5 @@
 // The missing edges, each by one scan over the edges as they stood.
-ghost use Rattle.std.specs.Prelude.{◌≡◌, Bool, false, ◌&&◌, ◌||◌, ℕ, ltb, eqb, ◌≤◌};
+ghost use Rattle.std.specs.Prelude.{◌≡◌, Bool, false, ◌&&◌, ◌||◌, ℕ, ltb, eqb, ◌≤◌, ◌<◌};
 ghost use Rattle.definition.specs.Lists.{any, below};
 ghost use Rattle.definition.specs.Graph as D;
 ghost use Rattle.definition.specs.Graph.{edge, paired, add_missing_reflexive_vertices, add_missing_symmetric_vertices, add_missing_transitive_vertices};
@@ -9,7 +9,8 @@ use crate::{Graph, GraphVertex, PossibleWorld};
 use limits::GRAPH_WIDTH;
 
 impl Graph {
-    ghost use Rattle.graph.specs.Drawn.{grid, with_vertex, HasGraph};
+    ghost use Rattle.graph.specs.Drawn.{grid, with_vertex, looked, HasGraph};
+    ghost use Rattle.limits.specs.Arrays.{edge_cells};
 
     // Adds each edge that the test finds missing from the graph as it stood.
     fn add_missing<F: Fn(&Graph, GraphVertex) -> bool>(&mut self, is_missing: F)
@@ -41,14 +42,16 @@ impl Graph {
 
     // Each world reaches itself.
     pub fn add_missing_reflexive_vertices(&mut self)
-        ensures { (g : D.Graph) → HasGraph g self.old → HasGraph (add_missing_reflexive_vertices g) self.new }
+        ensures worlds { self.new.worlds ≡ self.old.worlds }
+        ensures added { (g : D.Graph) → HasGraph g self.old → HasGraph (add_missing_reflexive_vertices g) self.new }
     {
         self.add_missing(|stood, vertex| stood.is_reflexive_vertex(vertex));
     }
 
     // Where u reaches v, v reaches u.
     pub fn add_missing_symmetric_vertices(&mut self)
-        ensures { (g : D.Graph) → HasGraph g self.old → HasGraph (add_missing_symmetric_vertices g) self.new }
+        ensures worlds { self.new.worlds ≡ self.old.worlds }
+        ensures added { (g : D.Graph) → HasGraph g self.old → HasGraph (add_missing_symmetric_vertices g) self.new }
     {
         self.add_missing(|stood, vertex| stood.contains(vertex.to, vertex.from));
     }
@@ -67,11 +70,22 @@ impl Graph {
         vertex.from != v || v != vertex.to
     }
 
+    // The second world of pair v of the row of `from`.
+    fn world_in_row(from: PossibleWorld, v: usize) -> PossibleWorld
+        requires { v < edge_cells }
+        ensures { result.0 ≡ looked from.0 v }
+    {
+        vertex_at(from.0 as usize * GRAPH_WIDTH + v).to
+    }
+
     // Whether the edge is there, or two unequal edges lead from its first world to its last.
     fn is_transitive_vertex(&self, vertex: GraphVertex) -> bool
         ensures { (g : D.Graph) → HasGraph g self.now → result ≡ (edge g vertex.from.0 vertex.to.0 || any (paired g vertex.from.0 vertex.to.0) (below g.worlds)) }
     {
         if GRAPH_WIDTH < self.worlds {
+            return false;
+        }
+        if self.worlds <= vertex.from.0 as usize {
             return false;
         }
         if self.worlds <= vertex.to.0 as usize {
@@ -80,12 +94,13 @@ impl Graph {
         if self.contains(vertex.from, vertex.to) {
             return true;
         }
-        (0..self.worlds).any(|v| self.is_paired(vertex, PossibleWorld(v as u16)))
+        (0..self.worlds).any(|v| self.is_paired(vertex, Graph::world_in_row(vertex.from, v)))
     }
 
     // Where u reaches v and v reaches w by unequal edges, u reaches w.
     pub fn add_missing_transitive_vertices(&mut self)
-        ensures { (g : D.Graph) → HasGraph g self.old → HasGraph (add_missing_transitive_vertices g) self.new }
+        ensures worlds { self.new.worlds ≡ self.old.worlds }
+        ensures added { (g : D.Graph) → HasGraph g self.old → HasGraph (add_missing_transitive_vertices g) self.new }
     {
         self.add_missing(|stood, vertex| stood.is_transitive_vertex(vertex));
     }

@@ -42,7 +42,7 @@ use subtree::{Items, ProofSubtree, append_logic_rule_result, append_subtree};
 use tree::{Chain, ProofTree, ProofTreeNodeID};
 
 // What the rules work on: the tree, the world graph, the stored necessities, and the nodes that wait.
-#[derive(Drop)]
+#[derive(Clone, Copy)]
 pub struct Tableau {
     pub tree: ProofTree,
     pub graph: Graph,

@@ -38,7 +38,7 @@ pub struct Forking {
 }
 
 // The worlds that occur on the path of each leaf, an entry for each node.
-#[derive(Drop)]
+#[derive(Clone, Copy)]
 pub struct PathWorlds {
     pub sets: [WorldSet; MOST_IDENTIFIERS],
 }

@@ -40,7 +40,7 @@ impl StoredNecessity {
 
 // The necessities, from the bottom of the stack to the top, how many there are, and the table of leaf bits.
 // No `arrays::Table`, whose clauses speak of entries pushed, read and taken out: here rows change where they stand and are turned round.
-#[derive(Drop)]
+#[derive(Clone, Copy)]
 pub struct Necessities {
     pub rows: [StoredNecessity; MOST_IDENTIFIERS],
     pub count: usize,

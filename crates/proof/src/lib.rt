@@ -28,7 +28,7 @@ use tree::ProofTreeNodeID;
 
 // The state of a run: the formulas, what the rules work on, the classes of the nodes that wait, how many steps were made, and whether it has proved.
 // The classes are a list of their own, since the rules queue nodes and know of no class.
-#[derive(Drop)]
+#[derive(Clone, Copy)]
 pub struct State {
     pub formulas: Formulas,
     pub tableau: Tableau,

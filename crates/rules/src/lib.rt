@@ -69,7 +69,7 @@ fn rule_of(outer: u16, inner: u16) -> LogicRule
             6 => LogicRule::NonStrictImply,
             7 => LogicRule::NonPossible,
             8 => LogicRule::NonNecessary,
-            _ => LogicRule::Nothing,
+            0 | 9..=65535 => LogicRule::Nothing,
         },
         2 => LogicRule::And,
         3 => LogicRule::Or,
@@ -78,7 +78,7 @@ fn rule_of(outer: u16, inner: u16) -> LogicRule
         6 => LogicRule::StrictImply,
         7 => LogicRule::Possible,
         8 => LogicRule::Necessary,
-        _ => LogicRule::Nothing,
+        0 | 9..=65535 => LogicRule::Nothing,
     }
 }
 

@@ -205,7 +205,7 @@ impl TargetedChain {
 }
 
 // Subtrees that are to be placed. More than MOST_IDENTIFIERS of them have more identifiers than there are.
-#[derive(Drop)]
+#[derive(Clone, Copy)]
 pub struct Items {
     pub chains: Table<TargetedChain, MOST_IDENTIFIERS>,
 }

@@ -274,7 +274,7 @@ impl ProofTreeNode {
 // The nodes by their identifiers, and how many of these are issued. A count above MOST_IDENTIFIERS says that there are too many, and nothing of the entries.
 // Numbered nodes in an array, and no nodes that own one another: the product has no heap, and the trays show the identifiers.
 // No `arrays::Table`, since an identifier is drawn from the sequence before its entry is filled.
-#[derive(Drop)]
+#[derive(Clone, Copy)]
 pub struct ProofTree {
     pub nodes: [ProofTreeNode; MOST_IDENTIFIERS],
     pub len: usize,
