@@ -1,10 +1,12 @@
 -- The loop over the records of a branch.
-use Prim.Native.Nat.{ℕ, ◌<◌, ◌≤◌}
+use Prim.Native.Nat.{ℕ, zero, suc, ◌+◌, ◌*◌, ◌/◌, ◌<◌, ◌≤◌}
 use mathlib.Core.Path.{◌≡◌, refl, sym, ap, ◌∙◌}
 use mathlib.Core.List.{List, [], ◌∷◌, ◌++◌}
 use mathlib.Core.Option.{none, some}
-use lib.ListN.{length}
-use Rattle.definition.specs.Limits.{record_length, most_size}
+use native.Mathlib.Omega.{arith}
+use lib.ListN.{length, take, set, length-append}
+use lib.Seq.{length-take-le, take-suc-set}
+use Rattle.definition.specs.Limits.{record_length, most_records, most_size}
 use Rattle.definition.specs.Records.{Rec, record_at, decode}
 use Rattle.definition.specs.Checks.{Check, expanded_size, checks_of_record, record_checks, first_of}
 use Rattle.definition.proofs.Run.Accepted.{none_passed, small}
@@ -16,6 +18,14 @@ use Rattle.checks.proofs.Found.{found_before, found_after}
 -- a record that passed is no larger than the limit
 pub record_small : (x : Record) (i size : ℕ) → none ≡ first_of (checks_of_record i size (rec_of x)) → size ≤ most_size
 record_small x i size e = small i size (rec_of x) (none_passed (checks_of_record i size (rec_of x)) (sym e))
+
+-- where a record is left, there is room for its size; what is left after it
+pub begun : (rest xs more bytes sizes : List ℕ) {n : ℕ} → rest ≡ xs ++ more → length xs ≡ record_length → record_length * n + length rest ≡ length bytes → length sizes ≡ most_records
+    → length bytes / record_length ≤ most_records → (n < length sizes) × (length (take n sizes) ≡ n) × (record_length * (n + 1) + length more ≡ length bytes)
+begun rest xs more bytes sizes {n} e six room long most =
+    let all : length rest ≡ record_length + length more = omega (arith, ap length e, length-append xs more, six) in
+    let few : n < length sizes = omega (arith, all, room, long, most) in
+    (few, length-take-le n sizes (omega (arith, few)), omega (arith, all, room))
 
 -- no check applies to the records so far, which have these sizes; `rest` has the bytes of those that are left
 pub record Reading (bytes sizes rest : List ℕ) : Type 0 where

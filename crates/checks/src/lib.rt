@@ -9,7 +9,6 @@ ghost use Rattle.definition.specs.Checks.{is_short, expanded_size, non_zero_fiel
 ghost use Rattle.formula.specs.Recorded.{rec_of};
 ghost use Rattle.checks.specs.Checked.{check_of, lengths, linked};
 
-use arrayvec::ArrayVec;
 use formula::{FormulaNumber, Kind, Record};
 use limits::{
     EDGE_TRAY_LENGTH, FORMULA_TRAY_LENGTH, MOST_FLAGS, MOST_MARKED, MOST_RECORDS, MOST_SIZE,
@@ -184,12 +183,12 @@ fn check_records(branch: &[u8]) -> Result<(), Refusal>
     requires { length branch.now / record_length ≤ most_records }
     ensures { check_of result ≡ first_of (record_checks [] (decode branch.now)) }
 {
-    let mut sizes = ArrayVec::<u16, MOST_RECORDS>::new();
+    let mut sizes = [0u16; MOST_RECORDS];
     for (i, bytes) in branch.chunks_exact(RECORD_LENGTH).enumerate() {
         let x = read_record(bytes);
-        let size = expanded_size(sizes.as_slice(), x);
+        let size = expanded_size(&sizes[..i], x);
         check_record(x, i as u16, size)?;
-        sizes.push(size as u16);
+        sizes[i] = size as u16;
     }
     Ok(())
 }

@@ -1,7 +1,7 @@
 // Necessities: what is stored of them, on which paths they are given again, and what they give there.
 #![tactic(auto)]
 
-ghost use Rattle.std.specs.Prelude.{◌≡◌, Bool, false, ◌&&◌, ◌||◌, not, List, [], ◌++◌, map, ℕ, ◌≤◌, ◌<◌, ◌+◌, length, get_or, set};
+ghost use Rattle.std.specs.Prelude.{◌≡◌, Bool, false, ◌&&◌, ◌||◌, not, List, [], ◌++◌, map, ℕ, ◌≤◌, ◌<◌, ◌+◌, length, get_or, set, replicate};
 ghost use Rattle.definition.specs.Limits.{most_identifiers};
 ghost use Rattle.arrays.specs.Listed.{HasList};
 ghost use Rattle.bits.specs.Bits.{bit_of};
@@ -46,7 +46,8 @@ pub struct PathWorlds {
 impl PathWorlds {
     // No world on any path.
     pub fn new() -> Self
-        ensures { length result.sets ≡ most_identifiers }
+        ensures sets { result.sets ≡ replicate most_identifiers no_world }
+        ensures len { length result.sets ≡ most_identifiers }
     {
         PathWorlds {
             sets: [WorldSet::EMPTY; MOST_IDENTIFIERS],

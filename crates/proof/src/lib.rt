@@ -91,8 +91,10 @@ fn next_step(steps: usize) -> usize
 impl State {
     // Checks the tree's contradictions after a rule, unless they are skipped. They were checked when the tree had `old` nodes.
     fn check(&mut self, setting: Setting, old: usize)
-        ensures { (s : R.State) → self.old.formulas.records.len ≤ most_formulas → ((asked setting).skip ≡ false → self.old.tableau.tree.len ≤ most_identifiers → CheckedAt s.formulas s.nodes old)
+        ensures checked { (s : R.State) → self.old.formulas.records.len ≤ most_formulas → ((asked setting).skip ≡ false → self.old.tableau.tree.len ≤ most_identifiers → CheckedAt s.formulas s.nodes old)
             → StateHeld (asked setting) s self.old → StateHeld (asked setting) (check_for_contradictions (asked setting) s) self.new }
+        ensures kept { (self.new.formulas ≡ self.old.formulas) × (self.new.tableau.graph ≡ self.old.tableau.graph) × (self.new.tableau.necessities ≡ self.old.tableau.necessities)
+            × (self.new.tableau.waiting ≡ self.old.tableau.waiting) × (self.new.classes ≡ self.old.classes) }
     {
         if setting.skip {
             return;
@@ -106,8 +108,10 @@ impl State {
 
     // The state before any step: contradictions are checked once, unless they are skipped.
     pub fn begin(&mut self, setting: Setting)
-        ensures { (s : R.State) → self.old.formulas.records.len ≤ most_formulas → CheckedAt s.formulas s.nodes 0
+        ensures checked { (s : R.State) → self.old.formulas.records.len ≤ most_formulas → CheckedAt s.formulas s.nodes 0
             → StateLaid (asked setting) s self.old → StateHeld (asked setting) (check_for_contradictions (asked setting) s) self.new }
+        ensures kept { (self.new.formulas ≡ self.old.formulas) × (self.new.tableau.graph ≡ self.old.tableau.graph) × (self.new.tableau.necessities ≡ self.old.tableau.necessities)
+            × (self.new.tableau.waiting ≡ self.old.tableau.waiting) × (self.new.classes ≡ self.old.classes) }
     {
         self.check(setting, 0);
     }

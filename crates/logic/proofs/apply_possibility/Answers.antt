@@ -21,7 +21,7 @@ returns-clause-after c = λ s recs q b.
     let two = forked_held F s x recs f q v (c.fork_nodes-id.ensures.1 t (before_held b)) in
     let r = c.reapply_necessity_after_possibility.ensures.gave t _ _ s.necessities [] _ b.necessities refl drawn b.count b.treed b.spawned
     (λ some. elim c.if-tableau-gt0.branch [
-      | then-tableau-gt0 w ↦ rw w.seen-is (forked_seen F s x recs f q _ v (w.worlds_at_fork.ensures t b.treed b.count laid c.new-seen.ensures))
+      | then-tableau-gt0 w ↦ rw w.seen-is (forked_seen F s x recs f q _ v (w.worlds_at_fork.ensures t b.treed b.count laid c.new-seen.ensures.len))
       | else-tableau-gt0 w ↦ absurd (omega (arith, some, w.if-tableau-gt0.false))
     ]) two (λ _. listing_start c.new-items.ensures _) in
     possibility_after F s x recs f q b.count r.0 r.1 drawn b.waiting b.treed c.fork_nodes-id.ensures.0 c.place_fork.ensures

@@ -10,4 +10,4 @@ returns c = λ small some few blank.
     let r = c.read_records.ensures blank.formulas in
     started rs some few c.args.state.now _ _ _ _ _ (few_records _ small) blank r (λ fits. c.begin_tree.ensures rs r fits blank.nodes) (λ l low same. c.begin_queue.ensures rs l low same blank.waiting)
     (λ ns q fits z l low. c.classify.ensures _ rs ns [] q r fits z l low blank.classes)
-    (λ fits new laid. c.begin.ensures (begun rs) fits new laid)
+    (λ fits new laid. c.begin.ensures.checked (begun rs) fits new laid)

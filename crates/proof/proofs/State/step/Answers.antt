@@ -23,4 +23,4 @@ returns c = λ s reached kp.
     let classes = took_classes (D.get_node_priority _ s.formulas s.nodes) s.waiting _ _ t.0 t.1 got.2 in
     let f = c.formula_of-f.ensures s.nodes (record { fits = d.ready.nodes; laid = l.nodes }) in
     kept_as (one_step _ s d.goes)
-    (stepped _ s _ t.0 d t.1 (expands_as f (c.expand-rule.ensures s.formulas l.formulas)) c.next_step-self.ensures (c.apply.ensures s _ t.0 (due_before d waiting)) classes c.classify.ensures c.check.ensures)
+    (stepped _ s _ t.0 d t.1 (expands_as f (c.expand-rule.ensures s.formulas l.formulas)) c.next_step-self.ensures (c.apply.ensures s _ t.0 (due_before d waiting)) classes c.classify.ensures c.check.ensures.checked)
