@@ -12,7 +12,7 @@ ghost use Rattle.lexer.specs.Steps.{state_of, depth_of, FollowedAs};
 ghost use Rattle.lexer.specs.Scanned.{ScannedAs};
 
 use formula::Kind;
-use limits::MOST_TEXT;
+use limits::{LARGEST_ATOM, MOST_TEXT};
 
 // What stands before one formula.
 #[derive(Clone, Copy, Debug, PartialEq, Eq)]
@@ -162,13 +162,14 @@ fn number(digits: &[u8]) -> Option<u16>
     requires { Digits digits.now }
     ensures { Atomic (value digits.now) result }
 {
-    let mut number: u16 = 0;
+    let mut number: u32 = 0;
     for digit in digits {
-        number = number
-            .checked_mul(10)?
-            .checked_add(u16::from(*digit - b'0'))?;
+        number = 10 * number + u32::from(*digit - b'0');
+        if LARGEST_ATOM < number {
+            return None;
+        }
     }
-    Some(number)
+    Some(number as u16)
 }
 
 // The name of some digits; none without a digit, with a leading zero or above the largest atom.

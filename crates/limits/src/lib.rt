@@ -40,6 +40,8 @@ pub const EDGE_TRAY_LENGTH: usize = GRAPH_WIDTH;
 
 pub const MOST_TEXT: usize = 4096;
 
+pub const LARGEST_ATOM: u32 = 65535;
+
 pub const TEXT_TRAY_LENGTH: usize = RECORD_LENGTH * MOST_TEXT;
 
 pub const EDGE_CELLS: usize = GRAPH_WIDTH * GRAPH_WIDTH;
