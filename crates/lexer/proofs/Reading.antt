@@ -6,7 +6,7 @@ use Rattle.grammar.specs.Tokens.{Token}
 use Rattle.lexer.specs.Words.{before, tokens_within, tokens_from, Stands}
 use Rattle.lexer.specs.declared.Word.{Word}
 
-ends_at : (words : List Word) (at : ℕ) → most_text ≤ at → tokens_from words at ≡ []
+pub ends_at : (words : List Word) (at : ℕ) → most_text ≤ at → tokens_from words at ≡ []
 unfolding tokens_within
 ends_at words at h = let z : most_text - at ≡ 0 = omega arith in ap (λ (n : ℕ). tokens_within n words at) z
 

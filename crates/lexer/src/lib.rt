@@ -132,11 +132,14 @@ enum Awaited {
 }
 
 // The token at a place; beyond the last, the end.
-#[tactic(auto, using(crate::proofs::Reading::stands))]
+#[tactic(auto, using(crate::proofs::Reading::stands, crate::proofs::Reading::ends_at))]
 pub fn word_at(words: &Words, at: usize) -> Word
     ensures { Stands words.now at result }
 {
-    words.get(at).copied().unwrap_or(Word::End)
+    if MOST_TEXT <= at {
+        return Word::End;
+    }
+    words[at]
 }
 
 // How many spaces begin the bytes.
