@@ -1,10 +1,11 @@
--- Laws of `filled` and `without`.
+-- Laws of `filled` and `without`; rows one after the other.
 use Prim.Native.Nat.{ℕ, zero, suc, ◌+◌, ◌-◌, ◌<◌}
 use mathlib.Core.Path.{◌≡◌, refl, sym, ap, ◌∙◌}
-use mathlib.Core.List.{List, [], ◌∷◌, ◌++◌}
+use mathlib.Core.List.{List, [], ◌∷◌, ◌++◌, append_assoc, append-nil}
 use native.Mathlib.Omega.{arith}
 use lib.ListN.{length, get_or, set, replicate, length-append, length-take, length-drop}
 use lib.Seq.{set_at, append_snoc}
+use Rattle.definition.specs.Lists.{concat_map}
 use Rattle.arrays.specs.Data.{without}
 use Rattle.arrays.specs.Table.{filled}
 
@@ -37,3 +38,9 @@ module _ {A : Type 0} (none : A) where
 pub length_without : {A : Type 0} (l : List A) (i : ℕ) → i < length l → length (without l i) + 1 ≡ length l
 unfolding without
 length_without l i h = simp (length-append, length-take, length-drop) (omega arith)
+
+-- ---- rows one after the other
+module _ {A : Type 0} (row : A → List ℕ) where
+  pub rows_snoc : (xs : List A) (x : A) → concat_map row (xs ++ (x ∷ [])) ≡ concat_map row xs ++ row x
+  rows_snoc [] x = append-nil (row x)
+  rows_snoc (y ∷ xs) x = ap (λ (l : List ℕ). row y ++ l) (rows_snoc xs x) ∙ sym (append_assoc (row y) (concat_map row xs) (row x))

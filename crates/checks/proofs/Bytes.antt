@@ -16,7 +16,7 @@ use Rattle.formula.specs.Recorded.{rec_of}
 use Rattle.formula.proofs.KindNumbers.{unknown}
 
 -- the kinds from lo to below hi have n links
-links_in : (n lo hi : ℕ) → all (λ j. ltb j lo || eqb n (arity (kind_of j))) (below hi) ≡ true → (k : ℕ) → lo ≤ k → k < hi → n ≡ arity (kind_of k)
+pub links_in : (n lo hi : ℕ) → all (λ j. ltb j lo || eqb n (arity (kind_of j))) (below hi) ≡ true → (k : ℕ) → lo ≤ k → k < hi → n ≡ arity (kind_of k)
 links_in n lo hi e k h g =
     ⊎_elim (λ q. absurd (omega (arith, ltb-true k lo q))) (λ q. eqb-true n (arity (kind_of k)) q)
     (or_cases (ltb k lo) (eqb n (arity (kind_of k))) (all_below (λ j. ltb j lo || eqb n (arity (kind_of j))) hi e k g))

@@ -16,7 +16,7 @@ use Rattle.formula.specs.Recorded.{missing, Recorded}
 use Rattle.formula.proofs.Recorded.{recorded_count, rec_at_far}
 
 -- ---- a node's formula
-formula_record : (rs : List Rec) (f : ℕ) → (f ≡ 65535 → ⊥) → formula_of rs f ≡ rec_at rs f
+pub formula_record : (rs : List Rec) (f : ℕ) → (f ≡ 65535 → ⊥) → formula_of rs f ≡ rec_at rs f
 unfolding formula_of
 formula_record rs f h = rw (ne_eqb f 65535 h) refl
 

@@ -126,7 +126,7 @@ shows text at lost most x h n e (w, _) = subst (λ (v : Word). Shown text at at 
 
 -- after the spaces
 -- a space is passed on
-space_next : (text : List ℕ) (i : ℕ) → i < length text → get_or text i 0 ≡ 32 → lexed text i ≡ lexed text (suc i)
+pub space_next : (text : List ℕ) (i : ℕ) → i < length text → get_or text i 0 ≡ 32 → lexed text i ≡ lexed text (suc i)
 space_next text i h e =
     let d : 32 ∷ drop (suc i) text ≡ drop i text = ap (λ (x : ℕ). x ∷ drop (suc i) text) (sym e) ∙ sym (drop-cons text i 0 h) in
     lexed_as text i (lexed text (suc i)) (subst (λ (v : List ℕ). Lexes i v (lexed text (suc i))) d (a_space (lexes_at text (suc i))))

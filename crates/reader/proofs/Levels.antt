@@ -101,7 +101,7 @@ got_sign words at count before middle after s k end written inner made w g q i p
     })
 
 -- a formula in brackets
-got_brackets : (words : List Word) (at count : ℕ) (before after : List ℕ) (inner end written : ℕ) → Spot words at opening → Got words (at + 1) 4 count before after inner written → Spot words inner closing → end ≡ inner + 1 → Got words at 0 count before after end written
+pub got_brackets : (words : List Word) (at count : ℕ) (before after : List ℕ) (inner end written : ℕ) → Spot words at opening → Got words (at + 1) 4 count before after inner written → Spot words inner closing → end ≡ inner + 1 → Got words at 0 count before after end written
 got_brackets words at count before after inner end written w g v e =
     let c : at + 1 < inner = g.span.moves in
     let i : inner < most_text = v.inside in
@@ -179,7 +179,7 @@ going_start g = record {
 }
 
 -- no joint of the level follows
-going_end : {words : List Word} {at k l count : ℕ} {before after : List ℕ} {end written : ℕ} → l ≡ suc k → Going words at k count before after end written → JointAt words end l None → Got words at l count before after end written
+pub going_end : {words : List Word} {at k l count : ℕ} {before after : List ℕ} {end written : ℕ} → l ≡ suc k → Going words at k count before after end written → JointAt words end l None → Got words at l count before after end written
 going_end {words} {at} {k} {l} {count} {before} {after} {end} {written} q g h =
     record {
       form = g.form;
@@ -228,7 +228,7 @@ after_joint : (words : List Word) (at i l end : ℕ) (j : Joint) {p : Form} → 
 after_joint words at i l end j {p} x t = subst (λ (v : List Token). Takes i (tokens_from words at) p v) x.spot.is t
 
 -- a joint that groups to the left, and on
-going_next : (words : List Word) (at k count : ℕ) (before a b after : List ℕ) (j : Joint) (end written end₂ written₂ : ℕ) → count ≤ at → suc k ≤ 2 → Going words at k count before a end written → Joins words end (suc k) j →
+pub going_next : (words : List Word) (at k count : ℕ) (before a b after : List ℕ) (j : Joint) (end written end₂ written₂ : ℕ) → count ≤ at → suc k ≤ 2 → Going words at k count before a end written → Joins words end (suc k) j →
     Got words (end + 1) k written a b end₂ written₂ → Puts b after written₂ (joint_kind j) (written - 1) (written₂ - 1) → Going words at k count before after end₂ (written₂ + 1)
 going_next words at k count before a b after j end written end₂ written₂ few low g x h p =
     let f : level (joint_of j) ≡ suc k = x.level_is in
@@ -242,7 +242,7 @@ going_next words at k count before a b after j end written end₂ written₂ few
     }
 
 -- a joint that groups to the right
-got_right : (words : List Word) (at k count : ℕ) (before a b after : List ℕ) (j : Joint) (end written end₂ written₂ : ℕ) → count ≤ at → 2 < suc k → Going words at k count before a end written → Joins words end (suc k) j →
+pub got_right : (words : List Word) (at k count : ℕ) (before a b after : List ℕ) (j : Joint) (end written end₂ written₂ : ℕ) → count ≤ at → 2 < suc k → Going words at k count before a end written → Joins words end (suc k) j →
     Got words (end + 1) (suc k) written a b end₂ written₂ → Puts b after written₂ (joint_kind j) (written - 1) (written₂ - 1) → Got words at (suc k) count before after end₂ (written₂ + 1)
 got_right words at k count before a b after j end written end₂ written₂ few high g x h p =
     let f : level (joint_of j) ≡ suc k = x.level_is in

@@ -25,7 +25,7 @@ module _ {rs : List Rec} {n : ℕ} {a : List Record} (p : Recorded rs n a) (h : 
   denied_formula = formula_as (denied rs) refl p h f
 
 -- ---- opposed
-none_opposed : (xs : List ℕ) → false ≡ opposed xs []
+pub none_opposed : (xs : List ℕ) → false ≡ opposed xs []
 unfolding opposed
 none_opposed [] = refl
 none_opposed (x ∷ xs) = refl

@@ -22,7 +22,7 @@ then_blanks [] k i = blanks k i
 then_blanks (n ∷ ns) k zero = refl
 then_blanks (n ∷ ns) k (suc i) = then_blanks ns k i
 
-lay_length : (ns : List Node) → length ns ≤ most_identifiers → length (lay ns) ≡ most_identifiers
+pub lay_length : (ns : List Node) → length ns ≤ most_identifiers → length (lay ns) ≡ most_identifiers
 unfolding lay
 lay_length ns h = simp (length-append, length-map, length-replicate) (omega arith)
 

@@ -52,7 +52,7 @@ same_forms : (ps : List Form) → branch_of (decode (concat_map record_bytes (li
 same_forms ps = ap branch_of (decoded ps) ∙ faithful ps
 
 module _ (text : List ℕ) (flags : ℕ) {textTray textTrayLeft : List ℕ} (lent : Trays) where
-  too_short : (length textTray < text_tray_length) × (textTrayLeft ≡ textTray) → TypedContract text flags textTray lent (refusal tray_too_short 0) textTrayLeft lent
+  pub too_short : (length textTray < text_tray_length) × (textTrayLeft ≡ textTray) → TypedContract text flags textTray lent (refusal tray_too_short 0) textTrayLeft lent
   too_short (h, kept) = record {
     short_tray = λ _. record { says = refl; text_tray_kept = kept; trays_kept = refl };
     long_text = λ k _. absurd (omega (arith, h, k));
@@ -62,7 +62,7 @@ module _ (text : List ℕ) (flags : ℕ) {textTray textTrayLeft : List ℕ} (len
     long_exactly = (λ e. let d : tray_too_short ≡ text_too_long = cc in absurd (omega (arith, d)), λ (k, _). absurd (omega (arith, h, k)));
   }
 
-  too_long : (text_tray_length ≤ length textTray) × (most_text < length text) × (textTrayLeft ≡ textTray) → TypedContract text flags textTray lent (refusal text_too_long 0) textTrayLeft lent
+  pub too_long : (text_tray_length ≤ length textTray) × (most_text < length text) × (textTrayLeft ≡ textTray) → TypedContract text flags textTray lent (refusal text_too_long 0) textTrayLeft lent
   too_long (wide, h, kept) = record {
     short_tray = λ k. absurd (omega (arith, wide, k));
     long_text = λ _ _. record { says = refl; text_tray_kept = kept; trays_kept = refl };
@@ -72,7 +72,7 @@ module _ (text : List ℕ) (flags : ℕ) {textTray textTrayLeft : List ℕ} (len
     long_exactly = (λ _. (wide, h), λ _. refl);
   }
 
-  unreadable : (o : ℕ) → (text_tray_length ≤ length textTray) × (length text ≤ most_text) × UnreadableAt text o × (textTrayLeft ≡ textTray) → TypedContract text flags textTray lent (refusal unreadable_text o) textTrayLeft lent
+  pub unreadable : (o : ℕ) → (text_tray_length ≤ length textTray) × (length text ≤ most_text) × UnreadableAt text o × (textTrayLeft ≡ textTray) → TypedContract text flags textTray lent (refusal unreadable_text o) textTrayLeft lent
   unreadable o (wide, few, g, kept) = record {
     short_tray = λ k. absurd (omega (arith, wide, k));
     long_text = λ _ k. absurd (omega (arith, few, k));
