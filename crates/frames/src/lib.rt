@@ -1,7 +1,7 @@
 // Eight Frames: what is kept of standard input, and the lines that are printed of it.
 #![tactic(auto)]
 
-ghost use Rattle.std.specs.Prelude.{◌≡◌, false, [], ◌∷◌, ◌++◌, ◌+◌, ◌≤◌, ◌<◌, ℕ, Ok, Err, IfErr, length};
+ghost use Rattle.std.specs.Prelude.{◌≡◌, false, [], ◌∷◌, ◌++◌, ◌+◌, ◌≤◌, ◌<◌, ℕ, Ok, Err, IfOk, IfErr, length};
 ghost use Rattle.arrayvec.specs.ArrayVec.{array_vec_len};
 ghost use Rattle.definition.specs.Trays.{zero_trays};
 ghost use Rattle.definition.specs.Call as Call;
@@ -11,6 +11,7 @@ ghost use Rattle.prover.specs.Said.{said};
 ghost use Rattle.slices.specs.Text.{decimal_of, line_of_words};
 ghost use Rattle.frames.specs.Line.{line_of, refused_word, word_of, number_length};
 ghost use Rattle.frames.specs.Lines.{lines_below, eight_lines, refusal_lines, Runs};
+ghost use Rattle.frames.specs.Messages.{message_of};
 
 mod error;
 mod kept;
@@ -157,13 +158,27 @@ pub fn print<W: Write>(output: &mut W, text: &[u8]) -> Result<(), RunError>
     output.write_all(text).or(Err(RunError::WriteFailed))
 }
 
+// The line of an error.
+fn message(error: RunError) -> std::io::Result<Line>
+    ensures { IfOk result (λ text. text.items ≡ message_of error ++ (10 ∷ [])) }
+{
+    let mut text = Line::new();
+    writeln!(text, "{error}")?;
+    Ok(text)
+}
+
+// Writes the line of an error by one `write_all`, so that no other program's output comes between.
+fn write_message<E: Write>(errors: &mut E, error: RunError) -> std::io::Result<()> {
+    errors.write_all(&message(error)?)
+}
+
 // Hands an outcome on, and writes why a run failed; an error of that is let go, since there is nowhere
 // left to report it.
 pub fn report<E: Write>(errors: &mut E, outcome: Result<(), RunError>) -> Result<(), RunError>
     ensures { result ≡ outcome }
 {
     outcome.inspect_err(|error| {
-        let _ = writeln!(errors, "{error}");
+        let _ = write_message(errors, *error);
     })
 }
 
