@@ -46,7 +46,7 @@ pub fn read_full<R: Read>(input: &mut R, buf: &mut [u8]) -> (usize, Result<(), R
 
 // What is kept of an input of any length: its bytes as far as there is room, and the count of them
 // as the answer needs it.
-#[derive(Drop)]
+#[derive(Clone, Copy, Debug, PartialEq, Eq)]
 pub struct Kept {
     bytes: [u8; KEPT_LENGTH],
     seen: usize,
