@@ -27,6 +27,19 @@ fn add(seen: usize, n: usize) -> usize
     OVER_LENGTH + (seen % RECORD_LENGTH + n % RECORD_LENGTH) % RECORD_LENGTH
 }
 
+// A further part of the input, kept after the bytes seen as far as there is room; the count of bytes
+// then seen.
+#[tactic(auto, using(crate::proofs::Windows::kept_put))]
+pub fn keep(kept: &mut [u8], seen: usize, part: &[u8]) -> usize
+    ensures value { result ≡ window (seen + length part.now) }
+    ensures kept_after { kept.new ≡ kept_with kept.old seen part.now }
+{
+    let from = seen.min(kept.len());
+    let n = part.len().min(kept.len() - from);
+    kept[from..from + n].copy_from_slice(&part[..n]);
+    add(seen, part.len())
+}
+
 // Reads until `buf` is full, the input ends or a read fails: how many bytes are then at the start of
 // `buf`, and whether a read failed.
 pub fn read_full<R: Read>(input: &mut R, buf: &mut [u8]) -> (usize, Result<(), RunError>)
@@ -66,16 +79,13 @@ impl Kept {
     }
 
     // A further part of the input, kept after the bytes seen as far as there is room.
-    #[tactic(auto, using(crate::proofs::Windows::counted_most, crate::proofs::Windows::counted_is, crate::proofs::Windows::kept_put))]
+    #[tactic(auto, using(crate::proofs::Windows::counted_is))]
     pub fn keep(&mut self, part: &[u8])
         ensures seen { self.new.seen ≡ window (self.old.seen + length part.now) }
         ensures bytes { self.new.bytes ≡ kept_with self.old.bytes self.old.seen part.now }
         ensures window { (whole : List ℕ) → Window whole self.old.bytes self.old.seen → Window (whole ++ part.now) self.new.bytes self.new.seen }
     {
-        let seen = self.seen;
-        let n = part.len().min(KEPT_LENGTH - seen);
-        self.bytes[seen..seen + n].copy_from_slice(&part[..n]);
-        self.seen = add(seen, part.len());
+        self.seen = keep(&mut self.bytes, self.seen, part);
     }
 
     // The bytes that the answer is given for.

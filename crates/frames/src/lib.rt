@@ -19,7 +19,7 @@ mod kept;
 use arrayvec::ArrayVec;
 pub use error::{RunError, Taken};
 use itoa::Buffer;
-pub use kept::{KEPT_LENGTH, Kept, read_full};
+pub use kept::{KEPT_LENGTH, Kept, keep, read_full};
 use limits::{EDGE_TRAY_LENGTH, FORMULA_TRAY_LENGTH, NODE_TRAY_LENGTH};
 use prover::{Verdict, prove};
 use refusal::Refusal;
