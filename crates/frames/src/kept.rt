@@ -1,6 +1,7 @@
 // What is kept of an input.
-ghost use Rattle.std.specs.Prelude.{◌≡◌, ◌+◌, ◌≤◌, List, ℕ, ◌++◌, [], length, take, IfErr};
-ghost use Rattle.frames.specs.Window.{window, kept_with, Window};
+ghost use Rattle.std.specs.Prelude.{◌≡◌, ◌+◌, ◌≤◌, List, ℕ, ◌++◌, [], ◌<◌, length, take, OnOk, IfErr};
+ghost use Rattle.std.specs.Io.KnownBytes.{Consumes, IsAtEnd};
+ghost use Rattle.frames.specs.Window.{window, kept_with, Window, Reads};
 
 use crate::RunError;
 use limits::{MOST_RECORDS, RECORD_LENGTH};
@@ -45,11 +46,13 @@ pub fn keep(kept: &mut [u8], seen: usize, part: &[u8]) -> usize
 pub fn read_full<R: Read>(input: &mut R, buf: &mut [u8]) -> (usize, Result<(), RunError>)
     ensures count { result.0 ≤ length buf.new }
     ensures error { IfErr result.1 (λ error. error ≡ RunError.ReadFailed) }
+    ensures bytes { Consumes (R.remaining input.old) (R.remaining input.new) (take result.0 buf.new) }
+    ensures end { OnOk result.1 (result.0 < length buf.new → IsAtEnd (R.remaining input.new)) }
 {
     let mut done = 0;
     while done < buf.len() {
         match input.read(&mut buf[done..]) {
-            Ok(0) => break,
+            Ok(0) => return (done, Ok(())),
             Ok(n) => done += n,
             Err(_) => return (done, Err(RunError::ReadFailed)),
         }
@@ -98,20 +101,21 @@ impl Kept {
     }
 
     // Keeps an input in place of what was kept, read to its end. A proved loop has to end, and nothing
-    // says that the input does: the parts are counted, and after 2^64 - 1 of them, which no input
+    // says that the input does: the reads are counted, and after 2^64 - 1 of them, which no input
     // reaches, it is a read error.
     #[tactic(auto, using(crate::proofs::Windows::window_exact))]
     pub fn read_all<R: Read>(&mut self, input: &mut R) -> Result<(), RunError>
-        ensures { IfErr result (λ error. error ≡ RunError.ReadFailed) }
+        ensures error { IfErr result (λ error. error ≡ RunError.ReadFailed) }
+        ensures kept { Reads (R.remaining input.old) (R.remaining input.new) self.new.bytes self.new.seen }
+        ensures end { OnOk result (IsAtEnd (R.remaining input.new)) }
     {
         self.seen = 0;
         let mut part = io::large_buffer();
         for _ in 0..u64::MAX {
-            let (n, outcome) = read_full(input, &mut part);
-            self.keep(&part[..n]);
-            outcome?;
-            if n < part.len() {
-                return Ok(());
+            match input.read(&mut part) {
+                Ok(0) => return Ok(()),
+                Ok(n) => self.keep(&part[..n]),
+                Err(_) => return Err(RunError::ReadFailed),
             }
         }
         Err(RunError::ReadFailed)
