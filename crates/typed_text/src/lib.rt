@@ -37,7 +37,7 @@ pub type Diagnosis = ArrayVec<u8, DIAGNOSIS_LENGTH>;
 type Glyph = ArrayVec<u8, SHOWN_LENGTH>;
 
 // What is printed of a text, and of a garbled one the offset too.
-#[derive(Drop)]
+#[derive(Clone, Drop)]
 pub struct Shown {
     pub lines: Lines,
     pub unreadable_at: Option<u16>,
