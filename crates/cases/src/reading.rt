@@ -5,7 +5,6 @@ ghost use Rattle.cases.specs.File.{FileRead, file_start, Takes};
 
 use crate::compare::{Difference, compare_line};
 use arrayvec::ArrayVec;
-use frames::read_full;
 use std::fmt::Display;
 use std::io::Read;
 
@@ -129,7 +128,7 @@ fn feed_all<P: Print>(rt: &P, name: &[u8], line: &mut Line, tally: Tally, part: 
     after
 }
 
-// The file to its end, in at most 2^40 parts.
+// The file to its end, in at most 2^40 parts; each is judged as soon as it is read.
 #[tactic(auto, using(crate::proofs::Filed::begun_start, crate::proofs::Filed::begun_next))]
 pub fn read_file<P: Print, R: Read>(rt: &P, file: &mut R, name: &[u8], tally: Tally) -> Tally
     ensures file_read { FileRead tally result }
@@ -139,13 +138,10 @@ pub fn read_file<P: Print, R: Read>(rt: &P, file: &mut R, name: &[u8], tally: Ta
     let mut at = tally.at_start();
     let mut part = io::buffer();
     for _ in 0..MOST_PARTS {
-        let (count, outcome) = read_full(file, &mut part);
-        at = feed_all(rt, name, &mut line, at, &part[..count]);
-        if outcome.is_err() {
-            return report(rt, name, at, "can't be read");
-        }
-        if count < part.len() {
-            return at;
+        match file.read(&mut part) {
+            Ok(0) => return at,
+            Ok(n) => at = feed_all(rt, name, &mut line, at, &part[..n]),
+            Err(_) => return report(rt, name, at, "can't be read"),
         }
     }
     report(rt, name, at, "is too long")

@@ -5,11 +5,11 @@ use mathlib.Core.Bool.{Bool, true, false}
 use mathlib.Core.Logic.{◌⊎◌, inl, inr, ⊎_elim}
 use Prim.Native.Nat.{ℕ, ◌+◌, ◌-◌, ◌%◌, ◌≤◌, ◌<◌, min}
 use native.Mathlib.Omega.{arith}
-use native.Mathlib.Nat.{add-mod, min-eq_right, min-le_right}
+use native.Mathlib.Nat.{add-mod, min-eq_right}
 use borrow.Author.Tests.{le-leb, lt-leb, leb-true, leb-false}
 use lib.Dec.{leb}
 use lib.ListN.{length, take, drop, length-append}
-use lib.Seq.{paste, take-length, take-paste, length-take-le}
+use lib.Seq.{paste, paste-zero, take-length, take-paste, length-take-le}
 use borrow.Rule.Slice.PartMut.{put_mid}
 use Rattle.std.proofs.lemmas.Slice.{put_mid-paste}
 use Rattle.definition.specs.Limits.{record_length}
@@ -91,16 +91,32 @@ window_twice n =
 pub counted_is : (r n : ℕ) → r ≡ window n → window r ≡ r
 counted_is r n e = ap window e ∙ window_twice n ∙ sym e
 
+-- a write begins at the bytes seen, or nothing is written
+begins : (seen size more from n : ℕ) → from ≡ min seen size → n ≡ min more (size - from) → (from ≡ seen) ⊎ (n ≡ 0)
+begins seen size more from n f r = go (leb seen size) refl
+  where
+    go : (b : Bool) → leb seen size ≡ b → (from ≡ seen) ⊎ (n ≡ 0)
+    go true e = let h : seen ≤ size = leb-true seen size e in inl (omega arith)
+    go false e = let h : size < seen = leb-false seen size e in inr (omega arith)
+
+pasted : (kept part : List ℕ) (seen from n m : ℕ) → (from ≡ seen) ⊎ (n ≡ 0) → n ≡ m → paste kept from part n ≡ paste kept seen part m
+pasted kept part seen from n m (inl e) r = rw (e, r)
+pasted kept part seen from n m (inr z) r =
+    ap (paste kept from part) z
+    ∙ sym (paste-zero kept from part)
+    ∙ paste-zero kept seen part
+    ∙ ap (paste kept seen part) (sym z ∙ r)
+
 -- what is kept after a write behind the bytes seen
-pub kept_put : (kept part now : List ℕ) (seen n k : ℕ) → now ≡ take n part → n ≡ min (length kept - seen) (length part) → k ≡ n
-    → put_mid seen k kept now ≡ kept_with kept seen part
+pub kept_put : (kept part now : List ℕ) (seen from n k : ℕ) → now ≡ take n part → from ≡ min seen (length kept) → n ≡ min (length part) (length kept - from) → k ≡ n
+    → put_mid from k kept now ≡ kept_with kept seen part
 unfolding kept_with
-kept_put kept part now seen n k e r s =
-    let short : n ≤ length part = omega (arith, r, min-le_right (length kept - seen) (length part)) in
+kept_put kept part now seen from n k e f r s =
+    let short : n ≤ length part = omega (arith, r) in
     let all : length (take n part) ≡ n = length-take-le n part short in
-    put_mid-paste seen k kept now (take n part) n e (sym s) (sym all)
-    ∙ ap (λ (l : List ℕ). take seen kept ++ l ++ drop (seen + n) kept) (ap (λ (m : ℕ). take m (take n part)) (sym all) ∙ take-length (take n part))
-    ∙ ap (paste kept seen part) r
+    put_mid-paste from k kept now (take n part) n e (sym s) (sym all)
+    ∙ ap (λ (l : List ℕ). take from kept ++ l ++ drop (from + n) kept) (ap (λ (m : ℕ). take m (take n part)) (sym all) ∙ take-length (take n part))
+    ∙ pasted kept part seen from n _ (begins seen (length kept) (length part) from n f r) (omega arith)
 
 -- a further part takes the window of an input to the window of both together
 pub window_kept : (whole kept part now : List ℕ) (seen r : ℕ) → kept_length ≤ length kept → now ≡ kept_with kept seen part → r ≡ window (seen + length part)

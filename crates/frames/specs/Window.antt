@@ -1,6 +1,8 @@
 -- What is kept of an input of any length: enough of it for the answer.
 use Rattle.std.specs.Prelude.{◌≡◌, cond, List, ℕ, ◌+◌, ◌*◌, ◌-◌, ◌%◌, ◌≤◌, min, leb, length, take}
 use Rattle.std.proofs.Math.Seq.{paste}
+use Rattle.std.specs.Io.KnownBytes.{Consumes}
+use Rattle.std.specs.declared.option.Option.{Option}
 use Rattle.definition.specs.Limits.{record_length, most_records}
 
 -- the bytes of the longest branch
@@ -27,3 +29,9 @@ kept_with kept seen part = paste kept seen part (min (length kept - seen) (lengt
 pub record Window (whole kept : List ℕ) (seen : ℕ) : Type 0 where
   pub counted : seen ≡ window (length whole)
   pub bytes : length whole ≤ window_length → take seen kept ≡ whole
+
+-- the window of what a reader gave, from the bytes that it had left before to those that it has left after, where they are known
+pub record Reads (before after : Option (List ℕ)) (kept : List ℕ) (seen : ℕ) : Type 0 where
+  pub whole : List ℕ
+  pub held : Window whole kept seen
+  pub given : Consumes before after whole

@@ -1,16 +1,16 @@
 // Eight Frames: what is kept of standard input, and the lines that are printed of it.
 #![tactic(auto)]
 
-ghost use Rattle.std.specs.Prelude.{◌≡◌, false, [], ◌∷◌, ◌++◌, ◌+◌, ◌≤◌, ◌<◌, ℕ, Ok, Err, IfErr, length};
+ghost use Rattle.std.specs.Prelude.{◌≡◌, false, [], ◌∷◌, ◌++◌, ◌+◌, ◌≤◌, ◌<◌, ℕ, Ok, Err, IfOk, IfErr, length};
 ghost use Rattle.arrayvec.specs.ArrayVec.{array_vec_len};
 ghost use Rattle.definition.specs.Trays.{zero_trays};
 ghost use Rattle.definition.specs.Call as Call;
-ghost use Rattle.definition.specs.Call.{answer};
-ghost use Rattle.refusal.specs.Number.{number_of};
+ghost use Rattle.definition.specs.Call.{answer, refusal};
 ghost use Rattle.prover.specs.Said.{said};
 ghost use Rattle.slices.specs.Text.{decimal_of, line_of_words};
 ghost use Rattle.frames.specs.Line.{line_of, refused_word, word_of, number_length};
 ghost use Rattle.frames.specs.Lines.{lines_below, eight_lines, refusal_lines, Runs};
+ghost use Rattle.frames.specs.Messages.{message_of};
 
 mod error;
 mod kept;
@@ -18,7 +18,7 @@ mod kept;
 use arrayvec::ArrayVec;
 pub use error::{RunError, Taken};
 use itoa::Buffer;
-pub use kept::{KEPT_LENGTH, Kept, read_full};
+pub use kept::{KEPT_LENGTH, Kept, keep, read_full};
 use limits::{EDGE_TRAY_LENGTH, FORMULA_TRAY_LENGTH, NODE_TRAY_LENGTH};
 use prover::{Verdict, prove};
 use refusal::Refusal;
@@ -76,13 +76,13 @@ fn word(proved: bool, late: bool) -> &'static [u8]
 
 // What a refusal prints after the flags.
 #[tactic(auto, using(std::proofs::lemmas::Grind::common_steps), unfolding(slices::specs::Text::line_of_words))]
-fn append_refusal(text: &mut Line, refusal: Refusal)
+fn append_refusal(text: &mut Line, number: u16, place: u16)
     requires { array_vec_len text.old ≤ number_length }
-    ensures { text.new.items ≡ text.old.items ++ line_of_words refused_word (decimal_of (number_of refusal.reason) ∷ decimal_of refusal.place ∷ []) }
+    ensures { text.new.items ≡ text.old.items ++ line_of_words refused_word (decimal_of number ∷ decimal_of place ∷ []) }
 {
     append(text, b"refused ");
-    append_number(text, u16::from(refusal.reason) as u64, b' ');
-    append_number(text, refusal.place as u64, b'\n');
+    append_number(text, number as u64, b' ');
+    append_number(text, place as u64, b'\n');
 }
 
 // What a verdict prints after the flags.
@@ -97,18 +97,37 @@ fn append_verdict(text: &mut Line, verdict: Verdict)
     append_number(text, verdict.steps as u64, b'\n');
 }
 
-// The line of an answer to these flags.
-#[tactic(auto, unfolding(crate::specs::Line::line_of, prover::specs::Said::said, slices::specs::Text::line_of_words))]
-pub fn line(flags: u8, answer: Result<Verdict, Refusal>) -> Line
-    ensures { result.items ≡ line_of flags (said answer) }
+// The line of a refusal by its number, which may be any, at these flags.
+#[tactic(auto, unfolding(crate::specs::Line::line_of, slices::specs::Text::line_of_words))]
+pub fn refusal_line(flags: u8, number: u16, place: u16) -> Line
+    ensures { result.items ≡ line_of flags (refusal number place) }
 {
     let mut text = Line::new();
     append_number(&mut text, flags as u64, b' ');
-    match answer {
-        Ok(verdict) => append_verdict(&mut text, verdict),
-        Err(refusal) => append_refusal(&mut text, refusal),
-    }
+    append_refusal(&mut text, number, place);
     text
+}
+
+// The line of a verdict at these flags.
+#[tactic(auto, unfolding(crate::specs::Line::line_of, prover::specs::Said::said, slices::specs::Text::line_of_words))]
+fn verdict_line(flags: u8, verdict: Verdict) -> Line
+    ensures { result.items ≡ line_of flags (said (Ok verdict)) }
+{
+    let mut text = Line::new();
+    append_number(&mut text, flags as u64, b' ');
+    append_verdict(&mut text, verdict);
+    text
+}
+
+// The line of an answer to these flags.
+#[tactic(auto, unfolding(prover::specs::Said::said))]
+pub fn line(flags: u8, answer: Result<Verdict, Refusal>) -> Line
+    ensures { result.items ≡ line_of flags (said answer) }
+{
+    match answer {
+        Ok(verdict) => verdict_line(flags, verdict),
+        Err(refusal) => refusal_line(flags, u16::from(refusal.reason), refusal.place),
+    }
 }
 
 // The call with these flags and empty trays.
@@ -122,15 +141,15 @@ fn call(branch: &[u8], flags: u8) -> Result<Verdict, Refusal>
     prove(branch, flags, &mut nodes, &mut formulas, &mut edges)
 }
 
-// The lines of the answers to the flags 0 to 7.
+// The lines for the flags 0 to 7.
 #[tactic(auto, using(crate::proofs::Frames::lines_next, crate::proofs::Frames::lines_length), unfolding(crate::specs::Lines::lines_below))]
-fn lines_by<F: Fn(u8) -> Result<Verdict, Refusal>>(answer_to: F) -> Lines
-    requires { F.IsAlwaysCallable answer_to }
-    ensures { (answers : ℕ → Call.Answer) → ((flags : ℕ) (r : _) → flags < 8 → F.post answer_to flags r → said r ≡ answers flags) → result.items ≡ lines_below 8 answers }
+fn lines_by<F: Fn(u8) -> Line>(line_at: F) -> Lines
+    requires { F.IsAlwaysCallable line_at }
+    ensures { (answers : ℕ → Call.Answer) → ((flags : ℕ) (r : _) → flags < 8 → F.post line_at flags r → r.items ≡ line_of flags (answers flags)) → result.items ≡ lines_below 8 answers }
 {
     let mut text = Lines::new();
     for flags in 0..8 {
-        append(&mut text, &line(flags, answer_to(flags)));
+        append(&mut text, &line_at(flags));
     }
     text
 }
@@ -139,15 +158,14 @@ fn lines_by<F: Fn(u8) -> Result<Verdict, Refusal>>(answer_to: F) -> Lines
 pub fn lines(branch: &[u8]) -> Lines
     ensures { result.items ≡ eight_lines branch.now }
 {
-    lines_by(|flags| call(branch, flags))
+    lines_by(|flags| line(flags, call(branch, flags)))
 }
 
-// The eight lines of a refusal.
-#[tactic(auto, unfolding(prover::specs::Said::said))]
-pub fn refusal_lines(refusal: Refusal) -> Lines
-    ensures { result.items ≡ refusal_lines (number_of refusal.reason) refusal.place }
+// The eight lines of a refusal by its number, which may be any.
+pub fn refusal_lines(number: u16, place: u16) -> Lines
+    ensures { result.items ≡ refusal_lines number place }
 {
-    lines_by(|_| Err(refusal))
+    lines_by(|flags| refusal_line(flags, number, place))
 }
 
 // Writes a text whole.
@@ -157,13 +175,27 @@ pub fn print<W: Write>(output: &mut W, text: &[u8]) -> Result<(), RunError>
     output.write_all(text).or(Err(RunError::WriteFailed))
 }
 
+// The line of an error.
+fn message(error: RunError) -> std::io::Result<Line>
+    ensures { IfOk result (λ text. text.items ≡ message_of error ++ (10 ∷ [])) }
+{
+    let mut text = Line::new();
+    writeln!(text, "{error}")?;
+    Ok(text)
+}
+
+// Writes the line of an error by one `write_all`, so that no other program's output comes between.
+fn write_message<E: Write>(errors: &mut E, error: RunError) -> std::io::Result<()> {
+    errors.write_all(&message(error)?)
+}
+
 // Hands an outcome on, and writes why a run failed; an error of that is let go, since there is nowhere
 // left to report it.
 pub fn report<E: Write>(errors: &mut E, outcome: Result<(), RunError>) -> Result<(), RunError>
     ensures { result ≡ outcome }
 {
     outcome.inspect_err(|error| {
-        let _ = writeln!(errors, "{error}");
+        let _ = write_message(errors, *error);
     })
 }
 

@@ -21,6 +21,7 @@ use Rattle.reader.specs.Refused.{refusal_of}
 use Rattle.reader.specs.declared.TextError.{TextError}
 use Rattle.reader.specs.declared.TextError.TheVariants.{ShortTray, TooLong, Unreadable}
 use Rattle.refusal.specs.Number.{number_of}
+use Rattle.refusal.specs.declared.Refusal.{Refusal}
 use Rattle.frames.specs.Lines.{eight_lines, refusal_lines}
 use Rattle.typed_text.specs.Showing.{ShownAs, offset_of}
 
@@ -40,6 +41,11 @@ unreadable_within {text} {o} g = go g.before g.after g.lexed g.there
     go : (before after : List Placed) → Lexes 0 text (before ++ after) → At text before after o → o ≤ length text
     go before [] l h = omega (arith, h.0)
     go before (x ∷ after) l h = omega (arith, h.0, (each_right (λ (y : Placed). y.at ≤ 0 + length text) before (x ∷ after) (begins_within l)).0)
+
+-- the lines by a refusal's number and place are its lines
+pub lines_refused : (out : List ℕ) (r s : Refusal) (number place : ℕ) → out ≡ refusal_lines number place → number ≡ number_of r.reason → r ≡ s → place ≡ r.place
+    → out ≡ refusal_lines (number_of s.reason) s.place
+lines_refused out r s number place e n is p = e ∙ rw (n, p, is)
 
 module _ (text after : List ℕ) (n : ℕ) where
   -- what is printed of a text that is not read; a tray of this length is not short

@@ -37,7 +37,7 @@ pub type Diagnosis = ArrayVec<u8, DIAGNOSIS_LENGTH>;
 type Glyph = ArrayVec<u8, SHOWN_LENGTH>;
 
 // What is printed of a text, and of a garbled one the offset too.
-#[derive(Drop)]
+#[derive(Clone, Drop)]
 pub struct Shown {
     pub lines: Lines,
     pub unreadable_at: Option<u16>,
@@ -201,10 +201,13 @@ pub fn show(rules: &[u8]) -> Shown
             lines: lines(&tray[..RECORD_LENGTH * count as usize]),
             unreadable_at: None,
         },
-        Err(error) => Shown {
-            lines: refusal_lines(Refusal::from(error)),
-            unreadable_at: offset_of(error),
-        },
+        Err(error) => {
+            let refusal = Refusal::from(error);
+            Shown {
+                lines: refusal_lines(u16::from(refusal.reason), refusal.place),
+                unreadable_at: offset_of(error),
+            }
+        }
     }
 }
 

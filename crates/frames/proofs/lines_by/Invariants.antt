@@ -1,7 +1,6 @@
 use Rattle.std.proofs.Common.{◌≡◌, ℕ, ◌≤◌, ◌<◌, ◌*◌, length}
-use Rattle.prover.specs.Said.{said}
 use Rattle.definition.specs.Call as Call
-use Rattle.frames.specs.Line.{line_length}
+use Rattle.frames.specs.Line.{line_length, line_of}
 use Rattle.frames.specs.Lines.{lines_below}
 use Rattle.frames.proofs.lines_by.Given as goal
 
@@ -9,4 +8,4 @@ use Rattle.frames.proofs.lines_by.Given as goal
 abbrev pub invariant-loop-flags : goal.invariant-loop-flags
 invariant-loop-flags g l =
     (length l.text.items ≤ line_length * l.flags)
-    × ((answers : ℕ → Call.Answer) → ((flags : ℕ) (r : _) → flags < 8 → g.F.Fn.post l.answer_to (flags, tt) r → said r ≡ answers flags) → l.text.items ≡ lines_below l.flags answers)
+    × ((answers : ℕ → Call.Answer) → ((flags : ℕ) (r : _) → flags < 8 → g.F.Fn.post l.line_at (flags, tt) r → r.items ≡ line_of flags (answers flags)) → l.text.items ≡ lines_below l.flags answers)

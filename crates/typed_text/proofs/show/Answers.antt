@@ -1,12 +1,9 @@
-use Rattle.std.proofs.Common.{subst, arith, sym, ◌∙◌, ap, replicate}
+use Rattle.std.proofs.Common.{subst, arith, rules, sym, replicate}
 use lib.Seq.{length-take-le}
 use Rattle.definition.specs.Limits.{text_tray_length}
 use Rattle.reader.specs.Contract.{ReadText}
-use Rattle.refusal.specs.Number.{number_of}
-use Rattle.refusal.specs.declared.Refusal.{Refusal}
-use Rattle.frames.specs.Lines.{refusal_lines}
 use Rattle.typed_text.specs.Showing.{ShownAs}
-use Rattle.typed_text.proofs.Whole.{taken_room, taken_shown, refused_shown}
+use Rattle.typed_text.proofs.Whole.{taken_room, taken_shown, lines_refused, refused_shown}
 use Rattle.typed_text.proofs.show.Goals as goal
 
 pub slice_bounds-tray-end : goal.slice_bounds-tray-end
@@ -23,4 +20,4 @@ returns-in-Err c =
     subst (ShownAs c.args.rules.now c.refusal_lines.result.items) (sym c.offset_of.ensures)
     (refused_shown c.args.rules.now c.read_text.new.tray text_tray_length c.in-Err.error c.refusal_lines.result.items
     (subst (ReadText c.args.rules.now (replicate text_tray_length 0) c.read_text.new.tray) c.in-Err.is c.read_text.ensures) (omega arith)
-    (c.refusal_lines.ensures ∙ ap (λ (r : Refusal). refusal_lines (number_of r.reason) r.place) c.from.ensures))
+    (lines_refused _ _ _ _ _ c.refusal_lines.ensures c.from.ensures c.from-refusal.ensures (search rules)))
