@@ -135,50 +135,51 @@ fn reason(short: bool) -> &'static [u8]
     }
 }
 
-// The first line of a diagnosis, of a line that begins at `start`.
+// Appends the first line of a diagnosis, of a line that begins at `start`.
 #[tactic(auto, using(std::proofs::lemmas::Grind::common_steps), unfolding(crate::specs::Diagnosis::heading, crate::specs::Diagnosis::place))]
-fn heading(text: &[u8], at: usize, start: usize) -> Diagnosis
+fn append_heading(out: &mut Diagnosis, text: &[u8], at: usize, start: usize)
+    requires empty { out.old.items ≡ [] }
     requires at_in_bounds { (at ≤ length text.now) × (at ≤ most_text) × (start ≤ at) }
     requires start_value { start ≡ line_start text.now at }
-    ensures items { result.items ≡ heading text.now at }
-    ensures len { array_vec_len result ≤ place_length + reason_length }
+    ensures items { out.new.items ≡ heading text.now at }
+    ensures len { array_vec_len out.new ≤ place_length + reason_length }
 {
-    let mut out = Diagnosis::new();
-    append(&mut out, b"line ");
-    append_number(&mut out, line_number(text, at) as u64, b',');
-    append(&mut out, b" column ");
-    append_number(&mut out, (at - start + 1) as u64, b':');
-    append(&mut out, reason(at == text.len()));
-    append(&mut out, b"\n");
-    out
+    append(out, b"line ");
+    append_number(out, line_number(text, at) as u64, b',');
+    append(out, b" column ");
+    append_number(out, (at - start + 1) as u64, b':');
+    append(out, reason(at == text.len()));
+    append(out, b"\n");
 }
 
-// Where a text is garbled, as a compiler says it: a line with the place, the text's line, a mark under
-// the place.
-fn diagnose(text: &[u8], at: usize) -> Diagnosis
-    requires { (at ≤ length text.now) × (length text.now ≤ most_text) }
-    ensures { result.items ≡ diagnosis text.now at }
+// Appends where a text is garbled, as a compiler says it: a line with the place, the text's line, a mark
+// under the place. A diagnosis is 32 KiB long, so that it is filled where it stands.
+fn append_diagnosis(out: &mut Diagnosis, text: &[u8], at: usize)
+    requires empty { out.old.items ≡ [] }
+    requires at_in_bounds { (at ≤ length text.now) × (length text.now ≤ most_text) }
+    ensures { out.new.items ≡ diagnosis text.now at }
 {
     let start = line_start(text, at);
     let end = line_end(text, at);
-    let mut out = heading(text, at, start);
-    append_each(&mut out, &text[start..end], shown_byte);
-    append(&mut out, b"\n");
-    append_each(&mut out, &text[start..at], blank_byte);
-    append(&mut out, b"^\n");
-    out
+    append_heading(out, text, at, start);
+    append_each(out, &text[start..end], shown_byte);
+    append(out, b"\n");
+    append_each(out, &text[start..at], blank_byte);
+    append(out, b"^\n");
 }
 
-// The same of any text and offset: nothing of a text that is too long or an offset beyond it.
+// Where a text is garbled, of any text and offset: nothing of a text that is too long or an offset beyond it.
 pub fn diagnosis(text: &[u8], at: usize) -> Diagnosis
     ensures items { at ≤ length text.now → length text.now ≤ most_text → result.items ≡ diagnosis text.now at }
     ensures beyond { length text.now < at → result.items ≡ [] }
     ensures long { most_text < length text.now → result.items ≡ [] }
 {
+    let mut out = Diagnosis::new();
     if text.len() < at || MOST_TEXT < text.len() {
-        return Diagnosis::new();
+        return out;
     }
-    diagnose(text, at)
+    append_diagnosis(&mut out, text, at);
+    out
 }
 
 // The offset of a text that is garbled.
@@ -226,7 +227,9 @@ fn read_all<R: Read>(input: &mut R, kept: &mut Kept) -> Result<(), RunError>
 fn report_place<E: Write>(errors: &mut E, rules: &[u8], at: usize)
     requires { (at ≤ length rules.now) × (length rules.now ≤ most_text) }
 {
-    let _ = errors.write_all(&diagnose(rules, at));
+    let mut out = Diagnosis::new();
+    append_diagnosis(&mut out, rules, at);
+    let _ = errors.write_all(&out);
 }
 
 // Reads the input and prints its eight lines; of a garbled text, on `errors`, also where it is.
