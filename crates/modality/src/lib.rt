@@ -109,11 +109,23 @@ impl<'a> EarlierTree<'a> {
     }
 
     // A node of the leaf's path passes the test.
+    // A climb of its own, beside `tree`'s: what asks that its test can be called is public in no crate.
     fn any_on_path<F: Fn(ProofTreeNodeID) -> bool>(self, leaf: ProofTreeNodeID, test: F) -> bool
         requires { F.IsAlwaysCallable test }
         ensures { (t : List Node) (p : ℕ → Bool) → HasEarlier t self.entry → ((x : ProofTreeNodeID) (b : Bool) → F.post test x b → b ≡ p x.0) → result ≡ any p (path t leaf.0) }
     {
-        self.tree.any_on_path(leaf, self.base, test)
+        let mut cur = leaf;
+        for _ in 0..self.base {
+            if self.base <= cur.0 as usize {
+                // What is no node of that tree has no parent there.
+                return !cur.is_none() && test(cur);
+            }
+            if test(cur) {
+                return true;
+            }
+            cur = self.tree.parent_of(cur);
+        }
+        false
     }
 }
 

@@ -482,7 +482,7 @@ impl ProofTree {
     }
 
     // In the tree as it stood, when it had `count` nodes: a node of the leaf's path passes the test.
-    pub fn any_on_path<F: Fn(ProofTreeNodeID) -> bool>(
+    fn any_on_path<F: Fn(ProofTreeNodeID) -> bool>(
         &self,
         leaf: ProofTreeNodeID,
         count: usize,
