@@ -21,9 +21,9 @@ fn show_place<P: Print>(rt: &P, rules: &[u8], at: usize, most: usize) {
 
 // The title, the eight lines, and at most so many bytes of where the text is garbled.
 fn show_most<P: Print>(rt: &P, title: &str, rules: &[u8], most: usize) {
-    let shown = typed_text::show(rules);
+    let (lines, shown) = typed_text::show(rules);
     let _ = rt.println(title);
-    let _ = rt.write_all(&shown.lines);
+    let _ = rt.write_all(&lines);
     if let Some(at) = shown.unreadable_at {
         show_place(rt, rules, at as usize, most);
     }

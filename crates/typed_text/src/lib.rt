@@ -36,10 +36,9 @@ pub type Diagnosis = ArrayVec<u8, DIAGNOSIS_LENGTH>;
 
 type Glyph = ArrayVec<u8, SHOWN_LENGTH>;
 
-// What is printed of a text, and of a garbled one the offset too.
-#[derive(Clone, Drop)]
+// What is told of a text beside its lines: of a garbled one the offset.
+#[derive(Clone, Copy, Debug, PartialEq, Eq)]
 pub struct Shown {
-    pub lines: Lines,
     pub unreadable_at: Option<u16>,
 }
 
@@ -193,21 +192,25 @@ fn offset_of(error: TextError) -> Option<u16>
 }
 
 // The eight lines of typed rules. "Short tray" does not arise: the tray here is long enough.
-pub fn show(rules: &[u8]) -> Shown
-    ensures { ShownAs rules.now result.lines.items result.unreadable_at }
+pub fn show(rules: &[u8]) -> (Lines, Shown)
+    ensures { ShownAs rules.now result.0.items result.1.unreadable_at }
 {
     let mut tray = [0u8; TEXT_TRAY_LENGTH];
     match read_text(rules, &mut tray) {
-        Ok(count) => Shown {
-            lines: lines(&tray[..RECORD_LENGTH * count as usize]),
-            unreadable_at: None,
-        },
+        Ok(count) => (
+            lines(&tray[..RECORD_LENGTH * count as usize]),
+            Shown {
+                unreadable_at: None,
+            },
+        ),
         Err(error) => {
             let refusal = Refusal::from(error);
-            Shown {
-                lines: refusal_lines(u16::from(refusal.reason), refusal.place),
-                unreadable_at: offset_of(error),
-            }
+            (
+                refusal_lines(u16::from(refusal.reason), refusal.place),
+                Shown {
+                    unreadable_at: offset_of(error),
+                },
+            )
         }
     }
 }
@@ -248,11 +251,11 @@ fn answer_input<R: Read, W: Write, E: Write>(
 {
     refuse_argument(words, Taken::TypedRules)?;
     read_all(input, kept)?;
-    let shown = show(kept);
+    let (lines, shown) = show(kept);
     if let Some(at) = shown.unreadable_at {
         report_place(errors, kept, at as usize);
     }
-    *text = shown.lines;
+    *text = lines;
     print(output, text)
 }
 
