@@ -52,7 +52,7 @@ pub takes_none : (line : List ℕ) (t : Tally) → Takes line t [] line t
 unfolding all_taken
 takes_none line t = record { is = refl }
 
-takes_then : {line line' line'' bs cs : List ℕ} {t s r : Tally} → Takes line t bs line' s → Takes line' s cs line'' r → Takes line t (bs ++ cs) line'' r
+pub takes_then : {line line' line'' bs cs : List ℕ} {t s r : Tally} → Takes line t bs line' s → Takes line' s cs line'' r → Takes line t (bs ++ cs) line'' r
 takes_then {line} {bs = bs} {cs} {t} h k = record { is = k.is ∙ rw h.is (sym (all_taken_append longest_line (reading_of line t) bs cs)) }
 
 pub takes_next :

@@ -1,13 +1,20 @@
 -- A formula's text by the links of its record.
 use Prim.Native.Nat.{ℕ, zero, suc, ◌≤◌, ◌<◌}
-use mathlib.Core.Path.{◌≡◌, refl, ap, ◌∙◌}
+use mathlib.Core.Path.{◌≡◌, refl, sym, ap, ◌∙◌}
 use mathlib.Core.Bool.{Bool, true, false, cond}
 use mathlib.Core.List.{List, [], ◌∷◌, ◌++◌}
 use native.Mathlib.Omega.{arith}
 use lib.Dec.{eqb, leb, ltb}
+use lib.ListN.{get_or-eq_default}
 use borrow.Author.Tests.{ltb-true, le-leb, lt-leb}
 use Rattle.definition.specs.Limits.{most_formulas}
-use Rattle.cases.specs.Text.{has_one, name_of, LinksAt, linked, record_by, formula_within, formula_text}
+use Rattle.cases.specs.Text.{letter_of, has_one, name_of, LinksAt, linked, record_by, formula_within, formula_text}
+
+-- ---- kinds
+-- none of the kinds 0 to 8
+pub no_letter : (kind : ℕ) → 9 ≤ kind → 63 ≡ letter_of kind
+unfolding letter_of
+no_letter kind above = sym (get_or-eq_default (63 ∷ 78 ∷ 67 ∷ 68 ∷ 73 ∷ 66 ∷ 83 ∷ 80 ∷ 76 ∷ []) 63 {n = kind} above)
 
 -- ---- the depth
 linked_same : (f link : ℕ) (xs ys : List ℕ) → (link < f → xs ≡ ys) → linked f link xs ≡ linked f link ys

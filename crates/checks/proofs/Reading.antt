@@ -1,11 +1,11 @@
 -- The loop over the records of a branch.
-use Prim.Native.Nat.{ℕ, zero, suc, ◌+◌, ◌*◌, ◌/◌, ◌<◌, ◌≤◌}
+use Prim.Native.Nat.{ℕ, ◌+◌, ◌*◌, ◌/◌, ◌<◌, ◌≤◌}
 use mathlib.Core.Path.{◌≡◌, refl, sym, ap, ◌∙◌}
 use mathlib.Core.List.{List, [], ◌∷◌, ◌++◌}
 use mathlib.Core.Option.{none, some}
 use native.Mathlib.Omega.{arith}
-use lib.ListN.{length, take, set, length-append}
-use lib.Seq.{length-take-le, take-suc-set}
+use lib.ListN.{length, take, length-append}
+use lib.Seq.{length-take-le}
 use Rattle.definition.specs.Limits.{record_length, most_records, most_size}
 use Rattle.definition.specs.Records.{Rec, record_at, decode}
 use Rattle.definition.specs.Checks.{Check, expanded_size, checks_of_record, record_checks, first_of}

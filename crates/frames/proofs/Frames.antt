@@ -40,7 +40,7 @@ lines_same (suc n) a b h =
     ∙ ap (λ (x : Call.Answer). lines_below n b ++ line_of n x) (h n)
 
 -- what is printed of the bytes kept is what the whole input asks for
-printed : (kept text : List ℕ) (seen : ℕ) → length (take seen kept) ≡ seen → window seen ≡ seen → text ≡ eight_lines (take seen kept) → Printed kept seen text
+pub printed : (kept text : List ℕ) (seen : ℕ) → length (take seen kept) ≡ seen → window seen ≡ seen → text ≡ eight_lines (take seen kept) → Printed kept seen text
 printed kept text seen size counted e =
     record {
       whole = take seen kept;

@@ -1,5 +1,6 @@
 -- Text appended piece by piece.
 use Rattle.std.proofs.Common.{◌≡◌, ◌∙◌, ap, List, [], ◌∷◌, ◌++◌, ℕ, zero, suc, ◌+◌, ◌/◌, ◌%◌, ◌^◌, ◌≤◌, ◌<◌, append_assoc, arith, length, length-append}
+use native.Mathlib.Nat.{pow-suc}
 use borrow.Author.Tests.{lt-ltb, le-ltb}
 use Rattle.std.specs.Fmt.{decimal}
 use Rattle.std.proofs.lemmas.Fmt.{decimal_by_steps}
@@ -8,6 +9,11 @@ use Rattle.slices.specs.Text.{decimal_within, decimal_of}
 -- one piece behind the other
 pub both : (text mid now s t : List ℕ) → mid ≡ text ++ s → now ≡ mid ++ t → now ≡ text ++ (s ++ t)
 both text mid now s t p q = q ∙ ap (λ (l : List ℕ). l ++ t) p ∙ append_assoc text s t
+
+-- a number is below that power of ten
+pub power_above : (k : ℕ) → k < 10 ^ k
+power_above zero = omega arith
+power_above (suc k) = omega (arith, pow-suc 10 k, power_above k)
 
 -- the digits that the library writes are the decimal digits
 Written : ℕ → List ℕ → Type 0
