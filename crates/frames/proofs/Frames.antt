@@ -1,11 +1,16 @@
 -- The lines one after the other, and what the window of an input prints.
-use Rattle.std.proofs.Common.{◌≡◌, refl, ◌∙◌, ap, List, ◌++◌, ℕ, zero, suc, ◌+◌, ◌*◌, ◌≤◌, ◌<◌, length, take, arith, Result, Ok, Err, IfErr, length-append}
+use Rattle.std.proofs.Common.{◌≡◌, refl, ◌∙◌, ap, List, ◌++◌, ℕ, zero, suc, ◌+◌, ◌*◌, ◌≤◌, ◌<◌, length, take, arith, Result, Ok, Err, IfOk, IfErr, length-append}
 use Rattle.std.specs.Bool.{⊤}
 use mathlib.Core.Logic.{⊎_elim}
 use native.Mathlib.Numerals.{add-one}
 use Rattle.definition.specs.Trays.{Trays, zero_trays}
-use Rattle.definition.specs.Call.{answer}
+use Rattle.definition.specs.Call.{answer, refusal}
 use Rattle.definition.specs.Call as Call
+use Rattle.refusal.specs.Number.{number_of}
+use Rattle.refusal.specs.declared.Refusal.{Refusal}
+use Rattle.prover.specs.Said.{said}
+use Rattle.prover.specs.declared.Verdict.{Verdict}
+use Rattle.frames.specs.declared.Numbered.{Numbered}
 use Rattle.frames.specs.Line.{line_of, line_length}
 use Rattle.frames.specs.Lines.{lines_below, answers_of, eight_lines, Printed, Runs}
 use Rattle.frames.specs.Window.{window_length, window, Window}
@@ -13,6 +18,14 @@ use Rattle.frames.specs.declared.error.RunError.{RunError}
 use Rattle.frames.specs.declared.error.RunError.TheVariants.{WriteFailed}
 use Rattle.frames.proofs.Answering.{answer_overlong}
 use Rattle.frames.proofs.Windows.{within, window_over, window_seen}
+
+-- the line of what `prove` answers, whose refusal is told by the number of its reason
+pub line_told : (flags : ℕ) (line : List ℕ) (answer : Result Verdict Refusal) → IfOk answer (λ verdict. line ≡ line_of flags (said (Ok verdict)))
+    → IfErr answer (λ error. (told : Numbered) × ((told.number ≡ number_of error.reason) × (told.place ≡ error.place)) × (line ≡ line_of flags (refusal told.number told.place)))
+    → line ≡ line_of flags (said answer)
+unfolding said
+line_told flags line (Ok verdict) p q = p
+line_told flags line (Err error) p (told, (number, place), e) = e ∙ rw (number, place)
 
 pub lines_next : (text now line : List ℕ) (answers : ℕ → Call.Answer) (flags : ℕ) → text ≡ lines_below flags answers → now ≡ text ++ line → line ≡ line_of flags (answers flags)
     → now ≡ lines_below (flags + 1) answers

@@ -39,6 +39,26 @@ pub type Line = ArrayVec<u8, LINE_LENGTH>;
 
 pub type Lines = ArrayVec<u8, TEXT_LENGTH>;
 
+// A refusal by its number, which may be any, and its place.
+#[derive(Clone, Copy, Debug, PartialEq, Eq)]
+pub struct Numbered {
+    pub number: u16,
+    pub place: u16,
+}
+
+impl From<Refusal> for Numbered {
+    ghost use Rattle.refusal.specs.Number.{number_of};
+
+    ghost from_gives = { λ refusal told. (told.number ≡ number_of refusal.reason) × (told.place ≡ refusal.place) };
+
+    fn from(refusal: Refusal) -> Numbered {
+        Numbered {
+            number: u16::from(refusal.reason),
+            place: refusal.place,
+        }
+    }
+}
+
 // Appends bytes. Where they do not fit, the text stays as it is.
 pub fn append<const N: usize>(text: &mut ArrayVec<u8, N>, bytes: &[u8])
     ensures fits { array_vec_len text.old + length bytes.now ≤ N → text.new.items ≡ text.old.items ++ bytes.now }
@@ -119,14 +139,18 @@ fn verdict_line(flags: u8, verdict: Verdict) -> Line
     text
 }
 
-// The line of an answer to these flags.
-#[tactic(auto, unfolding(prover::specs::Said::said))]
-pub fn line(flags: u8, answer: Result<Verdict, Refusal>) -> Line
-    ensures { result.items ≡ line_of flags (said answer) }
+// The line of an answer to these flags. Its refusal is told by number, which may be any, and place, or by
+// what has them, as what `prove` answers.
+pub fn line<E: Into<Numbered>>(flags: u8, answer: Result<Verdict, E>) -> Line
+    ensures verdict { IfOk answer (λ verdict. result.items ≡ line_of flags (said (Ok verdict))) }
+    ensures refused { IfErr answer (λ error. (told : Numbered) × E.converts error told × (result.items ≡ line_of flags (refusal told.number told.place))) }
 {
     match answer {
         Ok(verdict) => verdict_line(flags, verdict),
-        Err(refusal) => refusal_line(flags, u16::from(refusal.reason), refusal.place),
+        Err(error) => {
+            let told = error.into();
+            refusal_line(flags, told.number, told.place)
+        }
     }
 }
 
@@ -139,6 +163,13 @@ fn call(branch: &[u8], flags: u8) -> Result<Verdict, Refusal>
     let mut formulas = [0u8; FORMULA_TRAY_LENGTH];
     let mut edges = [0u32; EDGE_TRAY_LENGTH];
     prove(branch, flags, &mut nodes, &mut formulas, &mut edges)
+}
+
+// The line of the call with these flags.
+fn line_of_call(branch: &[u8], flags: u8) -> Line
+    ensures { result.items ≡ line_of flags (answer branch.now flags zero_trays) }
+{
+    line(flags, call(branch, flags))
 }
 
 // The lines for the flags 0 to 7.
@@ -158,7 +189,7 @@ fn lines_by<F: Fn(u8) -> Line>(line_at: F) -> Lines
 pub fn lines(branch: &[u8]) -> Lines
     ensures { result.items ≡ eight_lines branch.now }
 {
-    lines_by(|flags| line(flags, call(branch, flags)))
+    lines_by(|flags| line_of_call(branch, flags))
 }
 
 // The eight lines of a refusal by its number, which may be any.

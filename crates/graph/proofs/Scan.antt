@@ -91,6 +91,11 @@ looked_is u v a b h =
     (λ t. rw t (h.1 (ltb-false (u * graph_width + v) edge_cells t)).1)
     (either (ltb (u * graph_width + v) edge_cells))
 
+-- pair v of the row of u, of a graph of n worlds: both worlds that the lookup gives
+pub pair_of_row : (u v n a b : ℕ) → n ≤ graph_width → u < n → v < n → (u * graph_width + v < edge_cells → (a ≡ (u * graph_width + v) / graph_width) × (b ≡ (u * graph_width + v) % graph_width))
+    → (a ≡ u) × (b ≡ v)
+pair_of_row u v n a b room hu hv at = let p = at (omega arith) in (omega (arith, p.0), omega (arith, p.1))
+
 -- place v of the row of u, of a graph of n worlds
 pub row_pair : (u v n : ℕ) → n ≤ graph_width → u < n → v < n → looked u v ≡ v
 unfolding looked

@@ -166,6 +166,12 @@ after_spaces text (b ∷ bs) at le e = go (is_space b) refl (after_spaces text b
         subst (After text at) z (record { inside = m.inside; past = omega (arith, m.past); same = space_next text at h (here ∙ w) ∙ m.same; no_space = m.no_space })
     go false q more = rw add-zero (record { inside = le; past = omega arith; same = refl; no_space = λ z. eqb-false b 32 q (sym here ∙ z) })
 
+-- the token that is next from a place behind spaces is next from before them
+pub shows_moved : (text : List ℕ) (at start : ℕ) {from to : ℕ} {w : Word} → at ≤ start → lexed text at ≡ lexed text start → Shown text start from to w → Shown text at from to w
+shows_moved text at start le e (no_more a b) = no_more (e ∙ a) b
+shows_moved text at start le e (token t l m i) = token t (e ∙ l) (omega (arith, le)) i
+shows_moved text at start le e (not_spelled l) = not_spelled (e ∙ l)
+
 pub shows_after : (text : List ℕ) (at n : ℕ) (x : Spelling) → at ≤ length text → n ≡ length (take_while is_space (take (length text - at) (drop at text))) →
     Begins (take (length text - (at + n)) (drop (at + n) text)) x → Shows text at (record { word = x.word; start = at + n; end = at + n + x.size })
 shows_after text at n x h c begun = (spaces.inside, go (leb (suc (at + n)) (length text)) refl)
@@ -180,9 +186,7 @@ shows_after text at n x h c begun = (spaces.inside, go (leb (suc (at + n)) (leng
     here = subst (λ (v : List ℕ). Begins v x) (rest_is text (at + n)) begun
 
     move : {w : Word} → Shown text (at + n) (at + n) ((at + n) + x.size) w → Shown text at (at + n) ((at + n) + x.size) w
-    move (no_more a b) = no_more (spaces.same ∙ a) b
-    move (token t l m i) = token t (spaces.same ∙ l) (omega (arith, spaces.past)) i
-    move (not_spelled l) = not_spelled (spaces.same ∙ l)
+    move = shows_moved text at (at + n) spaces.past spaces.same
 
     go : (b : Bool) → leb (suc (at + n)) (length text) ≡ b → Shown text at (at + n) ((at + n) + x.size) x.word
     go true q =

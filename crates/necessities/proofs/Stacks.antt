@@ -134,19 +134,25 @@ module _ {ns : List Necessity} {count : ℕ} {rows : List StoredNecessity} {l : 
         d,
       ) (get_or-take count rows i blank (omega arith))
 
-  pub stack_turn : {new : List StoredNecessity} → new ≡ reverse (take count rows) → Stack (reverse ns) count (new ++ drop count rows) l
-  stack_turn e =
-      rw e (record {
+  -- any rows of which the first are those in the other order, whatever is beyond them
+  pub stack_mirrored : {other : List StoredNecessity} → length other ≡ length rows → ((i k : ℕ) → i + k + 1 ≡ count → get_or other k blank ≡ get_or rows i blank) → Stack (reverse ns) count other l
+  stack_mirrored {other} long turns =
+      record {
         room = z.room;
         counted = length-reverse ns ∙ z.counted;
         stored = stored;
-        used = λ k h. rw (mirrored (count - 1 - k) k (omega arith)) (z.used (count - 1 - k) (omega arith));
-        long = omega (arith, length-append (reverse (take count rows)) (drop count rows), length-reverse (take count rows), first, length-drop count rows, z.long, z.room);
+        used = λ k h. rw (turns (count - 1 - k) k (omega arith)) (z.used (count - 1 - k) (omega arith));
+        long = long ∙ z.long;
         leaves_long = z.leaves_long;
-      })
+      }
     where
-      stored : (none : Necessity) (i k : ℕ) → i + k + 1 ≡ count → Row (get_or (reverse ns) i none) k turned l
+      stored : (none : Necessity) (i k : ℕ) → i + k + 1 ≡ count → Row (get_or (reverse ns) i none) k other l
       stored none i k e =
           let r = z.stored none k i (omega arith) in
           let d : length ns - 1 - i ≡ k = omega (arith, z.counted) in
-          rw (get_or-reverse ns i none (omega (arith, z.counted)), d) (record { low = omega (arith, z.room); is = rw (mirrored i k e) r.is })
+          rw (get_or-reverse ns i none (omega (arith, z.counted)), d) (record { low = omega (arith, z.room); is = rw (turns i k e) r.is })
+
+  pub stack_turn : {new : List StoredNecessity} → new ≡ reverse (take count rows) → Stack (reverse ns) count (new ++ drop count rows) l
+  stack_turn e =
+      rw e
+      (stack_mirrored (omega (arith, length-append (reverse (take count rows)) (drop count rows), length-reverse (take count rows), first, length-drop count rows, z.long, z.room)) mirrored)

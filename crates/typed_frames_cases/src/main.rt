@@ -2,7 +2,7 @@
 #![tactic(auto)]
 
 use limits::MOST_TEXT;
-use typed_text::DIAGNOSIS_LENGTH;
+use typed_text::{DIAGNOSIS_LENGTH, Diagnosis, diagnose};
 
 // The length of a first line: "line 1, column 4097: the text ends short" and the newline.
 const FIRST_LINE: usize = 41;
@@ -15,7 +15,8 @@ const CROWDED_LINES: usize = 65;
 
 // Where a text is garbled; at most so many bytes of it.
 fn show_place<P: Print>(rt: &P, rules: &[u8], at: usize, most: usize) {
-    let place = typed_text::diagnosis(rules, at);
+    let mut place = Diagnosis::new();
+    diagnose(&mut place, rules, at);
     let _ = rt.write_all(&place[..most.min(place.len())]);
 }
 

@@ -1,11 +1,11 @@
 // Typed rules: the eight lines of a text, and where it is garbled, as a compiler says it.
 #![tactic(auto)]
 
-ghost use Rattle.std.specs.Prelude.{◌≡◌, List, ℕ, [], ◌∷◌, ◌++◌, ◌+◌, ◌-◌, ◌*◌, ◌≤◌, ◌<◌, Err, IfErr, length};
+ghost use Rattle.std.specs.Prelude.{◌≡◌, [], ◌++◌, ◌+◌, ◌-◌, ◌*◌, ◌≤◌, ◌<◌, Err, IfErr, length, replicate};
 ghost use Rattle.arrayvec.specs.ArrayVec.{array_vec_len};
 ghost use Rattle.definition.specs.Limits.{record_length, most_text};
 ghost use Rattle.definition.specs.Lists.{concat_map};
-ghost use Rattle.typed_text.specs.Diagnosis.{line_number, line_start, line_end, plain, shown, blank, reason, heading, diagnosis, shown_length, place_length, reason_length, diagnosis_length};
+ghost use Rattle.typed_text.specs.Diagnosis.{line_number, line_start, line_end, plain, shown, reason, heading, diagnosis, shown_length, place_length, reason_length, diagnosis_length};
 ghost use Rattle.typed_text.specs.Showing.{ShownAs, offset_of, Runs};
 
 use arrayvec::ArrayVec;
@@ -33,8 +33,6 @@ pub const DIAGNOSIS_LENGTH: usize = HEADING_LENGTH + 2 * SHOWN_LENGTH * MOST_TEX
 pub type Kept = ArrayVec<u8, KEPT_LENGTH>;
 
 pub type Diagnosis = ArrayVec<u8, DIAGNOSIS_LENGTH>;
-
-type Glyph = ArrayVec<u8, SHOWN_LENGTH>;
 
 // What is told of a text beside its lines: of a garbled one the offset.
 #[derive(Clone, Copy, Debug, PartialEq, Eq)]
@@ -81,43 +79,44 @@ fn is_plain(b: u8) -> bool
     b' ' <= b && b <= b'~' && b != b'\\'
 }
 
-// A byte as it is shown.
+// Appends a byte as it is shown.
 #[tactic(auto, unfolding(crate::specs::Diagnosis::shown))]
-fn shown_byte(b: u8) -> Glyph
-    ensures { result.items ≡ shown b }
+fn append_shown_byte(out: &mut Diagnosis, b: u8)
+    requires { array_vec_len out.old + shown_length ≤ diagnosis_length }
+    ensures items { out.new.items ≡ out.old.items ++ shown b }
+    ensures len { array_vec_len out.new ≤ array_vec_len out.old + shown_length }
 {
-    let mut glyph = Glyph::new();
     if is_plain(b) {
-        glyph.push(b);
-        return glyph;
+        out.push(b);
+        return;
     }
     let mut digits = [0u8; 16];
     let count = io::hex(b as u64, 2, &mut digits);
-    append(&mut glyph, b"\\x");
-    append(&mut glyph, &digits[..count]);
-    glyph
+    append(out, b"\\x");
+    append(out, &digits[..count]);
 }
 
-// Spaces in its place, one for each character.
-#[tactic(auto, using(crate::proofs::Marks::refilled), unfolding(crate::specs::Diagnosis::blank))]
-fn blank_byte(b: u8) -> Glyph
-    ensures { result.items ≡ blank b }
-{
-    let mut spaces = shown_byte(b);
-    spaces.fill(b' ');
-    spaces
-}
-
-// Appends what is made of each byte.
-#[tactic(auto, using(crate::proofs::Marks::each_none, crate::proofs::Marks::each_next, crate::proofs::Marks::each_length))]
-fn append_each<F: Fn(u8) -> Glyph>(out: &mut Diagnosis, bytes: &[u8], glyph: F)
-    requires callable { F.IsAlwaysCallable glyph }
-    requires room { array_vec_len out.old + shown_length * length bytes.now ≤ diagnosis_length }
-    ensures items { (glyphs : ℕ → List ℕ) → ((b : ℕ) (r : _) → b < 256 → F.post glyph b r → r.items ≡ glyphs b) → out.new.items ≡ out.old.items ++ concat_map glyphs bytes.now }
+// Appends bytes as they are shown.
+#[tactic(auto, using(crate::proofs::Marks::each_none, crate::proofs::Marks::each_next))]
+fn append_shown(out: &mut Diagnosis, bytes: &[u8])
+    requires { array_vec_len out.old + shown_length * length bytes.now ≤ diagnosis_length }
+    ensures items { out.new.items ≡ out.old.items ++ concat_map shown bytes.now }
     ensures len { array_vec_len out.new ≤ array_vec_len out.old + shown_length * length bytes.now }
 {
     for &b in bytes {
-        append(out, &glyph(b));
+        append_shown_byte(out, b);
+    }
+}
+
+// Appends so many spaces.
+#[tactic(auto, using(crate::proofs::Marks::spaces_none, crate::proofs::Marks::spaces_next))]
+fn append_spaces(out: &mut Diagnosis, count: usize)
+    requires { array_vec_len out.old + count ≤ diagnosis_length }
+    ensures items { out.new.items ≡ out.old.items ++ replicate count 32 }
+    ensures len { array_vec_len out.new ≡ array_vec_len out.old + count }
+{
+    for _ in 0..count {
+        out.push(b' ');
     }
 }
 
@@ -152,7 +151,7 @@ fn append_heading(out: &mut Diagnosis, text: &[u8], at: usize, start: usize)
 }
 
 // Appends where a text is garbled, as a compiler says it: a line with the place, the text's line, a mark
-// under the place. A diagnosis is 32 KiB long, so that it is filled where it stands.
+// under the place, behind as many spaces as characters are shown before it.
 fn append_diagnosis(out: &mut Diagnosis, text: &[u8], at: usize)
     requires empty { out.old.items ≡ [] }
     requires at_in_bounds { (at ≤ length text.now) × (length text.now ≤ most_text) }
@@ -161,23 +160,37 @@ fn append_diagnosis(out: &mut Diagnosis, text: &[u8], at: usize)
     let start = line_start(text, at);
     let end = line_end(text, at);
     append_heading(out, text, at, start);
-    append_each(out, &text[start..end], shown_byte);
+    let heading = out.len();
+    append_shown(out, &text[start..at]);
+    let width = out.len() - heading;
+    append_shown(out, &text[at..end]);
     append(out, b"\n");
-    append_each(out, &text[start..at], blank_byte);
+    append_spaces(out, width);
     append(out, b"^\n");
 }
 
-// Where a text is garbled, of any text and offset: nothing of a text that is too long or an offset beyond it.
+// Where a text is garbled, of any text and offset, in place of what is in `out`: nothing of a text that is
+// too long or an offset beyond it. A diagnosis has room for 32 KiB, so that it is filled where it stands.
+pub fn diagnose(out: &mut Diagnosis, text: &[u8], at: usize)
+    ensures items { at ≤ length text.now → length text.now ≤ most_text → out.new.items ≡ diagnosis text.now at }
+    ensures beyond { length text.now < at → out.new.items ≡ [] }
+    ensures long { most_text < length text.now → out.new.items ≡ [] }
+{
+    out.clear();
+    if text.len() < at || MOST_TEXT < text.len() {
+        return;
+    }
+    append_diagnosis(out, text, at);
+}
+
+// The same, answered.
 pub fn diagnosis(text: &[u8], at: usize) -> Diagnosis
     ensures items { at ≤ length text.now → length text.now ≤ most_text → result.items ≡ diagnosis text.now at }
     ensures beyond { length text.now < at → result.items ≡ [] }
     ensures long { most_text < length text.now → result.items ≡ [] }
 {
     let mut out = Diagnosis::new();
-    if text.len() < at || MOST_TEXT < text.len() {
-        return out;
-    }
-    append_diagnosis(&mut out, text, at);
+    diagnose(&mut out, text, at);
     out
 }
 
@@ -227,11 +240,9 @@ fn read_all<R: Read>(input: &mut R, kept: &mut Kept) -> Result<(), RunError>
 }
 
 // Writes where a text is garbled; an error is let go, since there is nowhere left to report it.
-fn report_place<E: Write>(errors: &mut E, rules: &[u8], at: usize)
-    requires { (at ≤ length rules.now) × (length rules.now ≤ most_text) }
-{
+fn report_place<E: Write>(errors: &mut E, rules: &[u8], at: usize) {
     let mut out = Diagnosis::new();
-    append_diagnosis(&mut out, rules, at);
+    diagnose(&mut out, rules, at);
     let _ = errors.write_all(&out);
 }
 
