@@ -59,12 +59,13 @@ unfolding diagnosis shown_line mark
 diagnosis_is text a b c d now at start end n m p q r s t =
     rw (sym n, sym m) (both [] c now _ _ (both [] a c _ _ p (both a b c _ _ q r)) (both c d now _ _ s t))
 
--- the bytes of a line as they are shown, up to the mark and from it on
+-- the bytes from one offset to another
 pub slice_is : (start end : ℕ) (text : List ℕ) → start ≤ end → take (end - start) (drop start text) ≡ slice start end text
 slice_is start end text h =
     let whole : start + (end - start) ≡ end = omega arith in
     sym (drop-take start (end - start) text) ∙ ap (λ (n : ℕ). drop start (take n text)) whole
 
+-- bytes as they are shown, and as spaces
 part_shown : (xs : List ℕ) → concat_map (shown_as false) xs ≡ concat_map shown xs
 unfolding shown_as
 part_shown [] = refl
@@ -78,6 +79,7 @@ part_blank (x ∷ xs) =
     ∙ replicate-append-replicate (length (shown x)) (length (concat_map shown xs)) 32
     ∙ ap (λ (n : ℕ). replicate n 32) (sym (length-append (shown x) (concat_map shown xs)))
 
+-- a line as it is shown: up to the mark, and from it on
 pub line_shown : (text : List ℕ) (start at end : ℕ) → start ≤ at → at ≤ end →
     concat_map shown (take (at - start) (drop start text)) ++ concat_map shown (take (end - at) (drop at text)) ≡ shown_from false text start end
 line_shown text start at end h k =
